@@ -1,0 +1,14 @@
+// What the calls of a set answer: a result, or a refusal with its number, its declaration's place and a byte position.
+pub mod counts;
+pub mod refusal;
+
+pub use counts::Counts;
+pub use refusal::Fault;
+pub use refusal::Refusal;
+pub use refusal::Why;
+
+// What open, add and replace answer.
+pub enum Answer {
+    Done(Counts),
+    Refused(Refusal),
+}

@@ -1,0 +1,19 @@
+-- `ground::byte_at` meets its contract.
+-- Assumes nothing.
+use mathlib.Core.Path.{sym}
+use borrow.Author.Needs.{needs}
+use Rattle.ground.proofs.Laws.{byte-at, byte-past}
+use Rattle.ground.proofs.byte_at.Statement.{statement}
+use Rattle.ground.proofs.byte_at.Tie as tie
+
+shared-slice-read-result : tie.Need-shared-slice-read-result
+shared-slice-read-result c = search needs
+
+returns : tie.Need-returns
+returns c = sym (byte-at _ _)
+
+returns-2 : tie.Need-returns-2
+returns-2 c = sym (byte-past _ _ (c .if1 .left))
+
+pub byte-at-spec : {M : Type 1} → statement M
+byte-at-spec = tie.close (tie.spec shared-slice-read-result returns returns-2)

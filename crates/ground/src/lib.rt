@@ -1,0 +1,69 @@
+// Strings of bytes, as every other crate reads, compares and copies them; and the size of a signed number.
+ghost use mathlib.Core.Path.{_≡_};
+ghost use lib.IntN.{natAbs};
+ghost use Rattle.ground.specs.Bytes.{byteAt, same, allZero, store};
+
+// The byte at a place, 0 past the end.
+pub fn byte_at(s: &[u8], at: usize) -> u8
+    ensures { λ r. ⌜ r ≡ byteAt (now (s .entry)) at ⌝ }
+{
+    if at < s.len() { s[at] } else { 0 }
+}
+
+// Are the two the same bytes?
+pub fn same(a: &[u8], b: &[u8]) -> bool
+    ensures { λ r. ⌜ r ≡ same (now (a .entry)) (now (b .entry)) ⌝ }
+{
+    if a.len() != b.len() {
+        return false;
+    }
+    let mut i = 0;
+    while i < a.len() {
+        if a[i] != b[i] {
+            return false;
+        }
+        i += 1;
+    }
+    true
+}
+
+// Is every byte 0?
+pub fn all_zero(s: &[u8]) -> bool
+    ensures { λ r. ⌜ r ≡ allZero (now (s .entry)) ⌝ }
+{
+    let mut i = 0;
+    while i < s.len() {
+        if s[i] != 0 {
+            return false;
+        }
+        i += 1;
+    }
+    true
+}
+
+// Stores the bytes of `from` in `to`, from `at` on, as far as there is room.
+pub fn copy(to: &mut [u8], at: usize, from: &[u8])
+    ensures { λ _. ⌜ now (to .exit) ≡ store (now (to .entry)) at (now («from» .entry)) ⌝ }
+{
+    let mut i = 0;
+    let mut j = at;
+    while i < from.len() {
+        if to.len() <= j {
+            return;
+        }
+        to[j] = from[i];
+        i += 1;
+        j += 1;
+    }
+}
+
+// A signed number without its sign.
+pub fn magnitude(s: i64) -> u64
+    ensures { λ r. ⌜ r ≡ natAbs s ⌝ }
+{
+    if s < 0 {
+        !s as u64 + 1
+    } else {
+        s as u64
+    }
+}

@@ -1,0 +1,37 @@
+-- The marked examples of document 01, each a question and its answer: one list, and one claim over all of it.
+-- Assumes nothing.
+use mathlib.Core.Path.{_≡_, refl}
+use mathlib.Core.List.{List, [], _∷_, map}
+use Prim.Native.Nat.{ℕ}
+use Rattle.rabin.specs.Rabin.{bitsOf, signedOf, bitStep, bitSteps, entryOf, byteBits, byteStep, rabinFrom, rabinOf}
+
+-- what is asked: an entry of the Rabin table; the fingerprint of some bytes
+pub data Question : Type 0 where
+  entry : ℕ → Question
+  fingerprint : List ℕ → Question
+
+-- what is answered: a signed number by its 64 bits, as 01 writes them in hexadecimal
+pub data Answer : Type 0 where
+  bits : ℕ → Answer
+
+-- the answer that the definitions give
+abbrev pub answerTo : Question → Answer
+answerTo (entry i) = bits (bitsOf (signedOf (entryOf i)))
+answerTo (fingerprint bs) = bits (bitsOf (rabinOf bs))
+
+abbrev pub Mark : Type 0
+Mark = Question × Answer
+
+unfoldable pub marks : List Mark
+marks =
+    (entry 0, bits 0)
+    ∷ (entry 128, bits 0xc15d213aa4d7a795)
+    ∷ (fingerprint [], bits 0xc15d213aa4d7a795)
+    ∷ (fingerprint (0x95 ∷ []), bits 0x00c15d213aa4d7a7)
+    ∷ (fingerprint (0x15 ∷ []), bits 0xc19c7c1b9e737032)
+    ∷ []
+
+-- every mark's answer is the one that the definitions give
+pub marks-hold : map (λ (m : Mark). answerTo (m .0)) marks ≡ map (λ (m : Mark). m .1) marks
+unfolding marks rabinFrom byteStep byteBits entryOf bitSteps bitStep
+marks-hold = refl

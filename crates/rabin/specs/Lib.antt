@@ -1,0 +1,2 @@
+pub mod Rabin
+pub mod Table
