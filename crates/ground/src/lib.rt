@@ -61,9 +61,5 @@ pub fn copy(to: &mut [u8], at: usize, from: &[u8])
 pub fn magnitude(s: i64) -> u64
     ensures { λ r. ⌜ r ≡ natAbs s ⌝ }
 {
-    if s < 0 {
-        !s as u64 + 1
-    } else {
-        s as u64
-    }
+    if s < 0 { !s as u64 + 1 } else { s as u64 }
 }
