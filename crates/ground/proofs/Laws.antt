@@ -13,7 +13,10 @@ use lib.Seq.{sets, sets-eq, drop-append-add, length-sets, take-at, drop-at, drop
 use borrow.Author.Tests.{eq-eqb, eqb-true}
 use Rattle.ground.specs.Bytes.{byteAt, part, store, same, allZero}
 
--- ---- a conjunction of tests
+-- ---- tests
+
+pub never : {A : Type 0} → false ≡ true → A
+never e = let z : _≡_ {A = ℕ} 0 1 = cc in absurd (omega arith)
 
 pub and-true : (a b : Bool) → (a && b) ≡ true → (a ≡ true) × (b ≡ true)
 and-true true b e = (refl, e)
@@ -125,17 +128,23 @@ same-refl (x ∷ a) = and-intro (eqb x x) (same a a) (eq-eqb x x refl) (same-ref
 pub same-true : (a b : List ℕ) → same a b ≡ true → a ≡ b
 unfolding same
 same-true [] [] e = refl
-same-true [] (y ∷ b) e = absurd (no e)
-  where
-    no : false ≡ true → ⊥
-    no f = let z : _≡_ {A = ℕ} 0 1 = cc in omega arith
-same-true (x ∷ a) [] e = absurd (no e)
-  where
-    no : false ≡ true → ⊥
-    no f = let z : _≡_ {A = ℕ} 0 1 = cc in omega arith
+same-true [] (y ∷ b) e = never e
+same-true (x ∷ a) [] e = never e
 same-true (x ∷ a) (y ∷ b) e =
     let p = and-true (eqb x y) (same a b) e in
     ap₂ (λ (u : ℕ) (v : List ℕ). u ∷ v) (eqb-true x y (p .0)) (same-true a b (p .1))
+
+-- what is not the same is not equal
+pub same-false : (a b : List ℕ) → same a b ≡ false → a ≡ b → ⊥
+same-false a b e q = let z : false ≡ true = sym e ∙ ap (same a) (sym q) ∙ same-refl a in never z
+
+-- strings of different lengths are not the same
+pub same-unlike : (a b : List ℕ) → (length a ≡ length b → ⊥) → same a b ≡ false
+same-unlike a b h = go (same a b) refl
+  where
+    go : (x : Bool) → same a b ≡ x → x ≡ false
+    go false e = refl
+    go true e = absurd (h (ap length (same-true a b e)))
 
 -- ---- zeros
 

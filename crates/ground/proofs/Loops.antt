@@ -1,28 +1,15 @@
 -- Turns of the loops: each invariant says that the answer is that for what is left.
 -- Assumes nothing.
-use mathlib.Core.Path.{_≡_, refl, sym, ap, _∙_}
-use mathlib.Core.Bool.{Bool, true, false, _&&_}
-use mathlib.Core.List.{List, [], _∷_}
-use Prim.Native.Nat.{ℕ, suc, _+_, _<_, _≤_}
+use mathlib.Core.Path.{_≡_, sym, ap, _∙_}
+use mathlib.Core.Bool.{Bool, true, false}
+use mathlib.Core.List.{List}
+use Prim.Native.Nat.{ℕ, _+_, _<_, _≤_}
 use native.Mathlib.Numerals.{add-one}
-use native.Mathlib.Omega.{arith}
 use lib.ListN.{length, drop, getD, set, drop-of-length-le}
 use lib.Seq.{drop-cons}
-use lib.Dec.{eqb}
 use borrow.Author.Tests.{eq-eqb, ne-eqb}
 use Rattle.ground.specs.Bytes.{same, allZero, store}
 use Rattle.ground.proofs.Laws.{store-cons, store-none, store-past}
-
-and-false : (t u : Bool) → false ≡ u → false ≡ (t && u)
-and-false true u e = e
-and-false false u e = refl
-
-pub other-lengths : (a b : List ℕ) → (length a ≡ length b → ⊥) → false ≡ same a b
-unfolding same
-other-lengths [] [] n = absurd (n refl)
-other-lengths [] (y ∷ b) n = refl
-other-lengths (x ∷ a) [] n = refl
-other-lengths (x ∷ a) (y ∷ b) n = and-false (eqb x y) _ (other-lengths a b (λ e. n (ap suc e)))
 
 module _ (a b : List ℕ) (i : ℕ) (t : Bool) (inv : t ≡ same (drop i a) (drop i b)) where
   pub same-differ : i < length a → i < length b → (getD a i 0 ≡ getD b i 0 → ⊥) → false ≡ t

@@ -1,11 +1,12 @@
 -- `ground::same` meets its contract: the answer is that for what is left.
 -- Assumes nothing.
-use mathlib.Core.Path.{_≡_, refl}
+use mathlib.Core.Path.{_≡_, refl, sym}
 use Prim.Native.Nat.{_-_, _≤_}
 use borrow.Author.Needs.{needs}
 use lib.ListN.{length, drop}
 use Rattle.ground.specs.Bytes.{same}
-use Rattle.ground.proofs.Loops.{same-differ, same-turn, same-end, other-lengths}
+use Rattle.ground.proofs.Laws.{same-unlike}
+use Rattle.ground.proofs.Loops.{same-differ, same-turn, same-end}
 use Rattle.ground.proofs.same.Statement.{statement}
 use Rattle.ground.proofs.same.Tie as tie
 
@@ -16,7 +17,7 @@ abbrev μ-loop : tie.MeasureT-loop
 μ-loop a b i₀ i = length a - i
 
 returns : tie.Need-returns Inv-loop μ-loop
-returns c = other-lengths _ _ (c .if1 .taken)
+returns c = sym (same-unlike _ _ (c .if1 .taken))
 
 loop-holds : tie.Need-loop-holds Inv-loop μ-loop
 loop-holds c = (search needs, refl)

@@ -1,0 +1,2 @@
+-- What the proofs on full names use.
+mod Kept

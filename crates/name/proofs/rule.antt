@@ -1,0 +1,2 @@
+-- What the proofs on the rule use.
+mod Bytewise
