@@ -1,5 +1,9 @@
 // What bench/ times, as functions that C can call.
+use json::Scan;
 ghost use mathlib.Core.Path.{_≡_};
+ghost use lib.ListN.{length};
+ghost use Rattle.bench_calls.specs.Places.{placeOf};
+ghost use Rattle.json.specs.Json.{scanned};
 ghost use Rattle.rabin.specs.Rabin.{rabinOf};
 
 #[no_mangle]
@@ -7,4 +11,15 @@ pub extern "C" fn bench_fingerprint(bytes: &[u8]) -> i64
     ensures { λ r. ⌜ r ≡ rabinOf (now (bytes .entry)) ⌝ }
 {
     rabin::fingerprint(bytes)
+}
+
+// The text's length where it is whole, else the place of its fault.
+#[no_mangle]
+pub extern "C" fn bench_scan(text: &[u8]) -> usize
+    ensures { λ r. ⌜ r ≡ placeOf (scanned (now (text .entry))) (length (now (text .entry))) ⌝ }
+{
+    match json::scan(text) {
+        Scan::Whole => text.len(),
+        Scan::Bad(f) => f.at,
+    }
 }

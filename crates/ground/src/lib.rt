@@ -1,5 +1,6 @@
 // Strings of bytes, as every other crate reads, compares and copies them; and the size of a signed number.
 ghost use mathlib.Core.Path.{_≡_};
+ghost use Prim.Native.Nat.{max};
 ghost use lib.IntN.{natAbs};
 ghost use Rattle.ground.specs.Bytes.{byteAt, same, allZero, store};
 
@@ -27,18 +28,23 @@ pub fn same(a: &[u8], b: &[u8]) -> bool
     true
 }
 
-// Is every byte 0?
+// Is every byte 0? No way out of the loop before its end, so that it goes by many bytes at a turn.
 pub fn all_zero(s: &[u8]) -> bool
     ensures { λ r. ⌜ r ≡ allZero (now (s .entry)) ⌝ }
 {
+    let mut most: u8 = 0;
     let mut i = 0;
     while i < s.len() {
-        if s[i] != 0 {
-            return false;
-        }
+        most = larger(most, s[i]);
         i += 1;
     }
-    true
+    most == 0
+}
+
+fn larger(a: u8, b: u8) -> u8
+    ensures { λ r. ⌜ r ≡ max a b ⌝ }
+{
+    if a < b { b } else { a }
 }
 
 // Stores the bytes of `from` in `to`, from `at` on, as far as there is room.

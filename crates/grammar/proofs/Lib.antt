@@ -1,0 +1,13 @@
+-- The way to the theorems, which are in `Theorems`.
+mod Endings
+mod Takes
+mod Classes
+mod Strings
+mod Numbers
+mod Bracketed
+mod Values
+mod Rests
+mod OneByte
+mod Derived
+mod Nesting
+pub mod Theorems

@@ -1,0 +1,1 @@
+// The scan held against the grammar of RFC 8259: definitions in specs/, theorems in proofs/, and no code.

@@ -1,0 +1,111 @@
+-- What the readers' steps come to, over plain values.
+-- Assumes nothing.
+use mathlib.Core.Path.{_≡_, sym, ap, _∙_}
+use mathlib.Core.List.{List, []}
+use Prim.Native.Nat.{ℕ, suc, _+_, _-_, _*_, _<_, _≤_}
+use native.Mathlib.Nat.{add-zero, sub-zero}
+use native.Mathlib.Omega.{arith}
+use lib.ListN.{length, take, drop, getD, length-drop, drop-of-length-le}
+use lib.Seq.{drop-drop, take-nil, take-all}
+use borrow.Author.Tests.{eq-eqb, ne-eqb}
+use Rattle.answer.specs.declared.counts.Counts.{Counts}
+use Rattle.answer.specs.Limits.{countsOf}
+use Rattle.ground.specs.Bytes.{part}
+use Rattle.row.specs.Kinds.{kindOf}
+use Rattle.row.specs.Numbers.{le, number}
+use Rattle.row.specs.Layout.{rowSize, rowsStart, stringsStart}
+use Rattle.row.specs.Rows.{entryOf, textOf, textStart, textLength}
+use Rattle.row.specs.Sets.{sum, wordsOf, countIn, sizesIn}
+use Rattle.row.specs.Memory.{fromRow, entryAt, textAt, sizeAt, rowsBefore, textEnd, stringsBefore, countsIn}
+use Rattle.row.specs.declared.kind.Kind.{Kind}
+use Rattle.row.specs.declared.Entry.{Entry}
+use Rattle.row.proofs.NumberLaws.{number-one}
+
+-- ---- a row's numbers
+
+pub number-from : (m : List ℕ) (at k n : ℕ) → number m (at + k) n ≡ number (drop at m) k n
+unfolding part
+number-from m at k n = ap (λ (l : List ℕ). le (take n l)) (sym (drop-drop k at m))
+
+pub byte-from : (m : List ℕ) (at k : ℕ) → getD m (at + k) 0 ≡ number (drop at m) k 1
+byte-from m at k = sym (number-one m (at + k)) ∙ number-from m at k 1
+
+module _ (m : List ℕ) (i : ℕ) where
+  at : ℕ
+  at = rowsStart + rowSize * i
+
+  pub read-kind : (k : Kind) → k ≡ kindOf (getD m (rowsStart + rowSize * i) 0) → k ≡ entryAt m i .kind
+  unfolding at entryAt entryOf
+  read-kind k e = e ∙ ap (λ (n : ℕ). kindOf (getD m n 0)) (sym (add-zero at)) ∙ ap kindOf (byte-from m at 0)
+
+  pub read-entry : (k : Kind) (d p s q z : ℕ) → k ≡ kindOf (getD m (rowsStart + rowSize * i) 0) → d ≡ number m (rowsStart + rowSize * i + 2) 2 → p ≡ number m (rowsStart + rowSize * i + 4) 2
+      → s ≡ number m (rowsStart + rowSize * i + 10) 8 → q ≡ number m (rowsStart + rowSize * i + 18) 8 → z ≡ number m (rowsStart + rowSize * i + 26) 8
+      → _≡_ {A = Entry} (record { kind = k; depth = d; position = p; size = s; note = getD m (rowsStart + rowSize * i + 1) 0; precision = q; scale = z }) (entryAt m i)
+  unfolding at entryAt entryOf
+  read-entry k d p s q z ek ed ep es eq ez =
+      let fk = read-kind k ek in
+      let fd = ed ∙ number-from m at 2 2 in
+      let fp = ep ∙ number-from m at 4 2 in
+      let fs = es ∙ number-from m at 10 8 in
+      let fn = byte-from m at 1 in
+      let fq = eq ∙ number-from m at 18 8 in
+      let fz = ez ∙ number-from m at 26 8 in
+      λ j. record { kind = fk j; depth = fd j; position = fp j; size = fs j; note = fn j; precision = fq j; scale = fz j }
+
+-- ---- a row's string
+
+pub cut-none : (s : List ℕ) (at n : ℕ) → length s ≤ at → [] ≡ part s at n
+unfolding part
+cut-none s at n h = sym (ap (take n) (drop-of-length-le s h) ∙ take-nil n)
+
+pub cut-rest : (s : List ℕ) (at n : ℕ) → length s - at ≤ n → take (length s - at) (drop at s) ≡ part s at n
+unfolding part
+cut-rest s at n h =
+    let l = length-drop at s in
+    take-all (length s - at) (drop at s) (omega arith) ∙ sym (take-all n (drop at s) (omega arith))
+
+pub cut-part : (s : List ℕ) (at n : ℕ) → take (at + n - at) (drop at s) ≡ part s at n
+unfolding part
+cut-part s at n = let e : at + n - at ≡ n = omega arith in rw e
+
+pub read-text : (m x : List ℕ) (i b n : ℕ) → b ≡ textStart (fromRow m i) → n ≡ textLength (fromRow m i) → x ≡ part (take (length m - stringsStart) (drop stringsStart m)) b n → x ≡ textAt m i
+unfolding textAt textOf
+read-text m x i b n p q e =
+    let l = length-drop stringsStart m in
+    e ∙ rw (take-all (length m - stringsStart) (drop stringsStart m) (omega arith), p, q)
+
+pub no-rows : (m : List ℕ) (n : ℕ) → n ≡ 0 → 0 ≡ stringsBefore m n
+unfolding stringsBefore
+no-rows m n e = rw (eq-eqb n 0 e)
+
+pub some-rows : (m : List ℕ) (n b k : ℕ) → (n ≡ 0 → ⊥) → b ≡ textStart (fromRow m (n - 1)) → k ≡ textLength (fromRow m (n - 1)) → b + k ≡ stringsBefore m n
+unfolding stringsBefore textEnd
+some-rows m n b k h p q = rw (ne-eqb n 0 h, p, q)
+
+-- ---- the rows before a place: what is counted, and what is left
+
+pub before-start : (m : List ℕ) (k : ℕ) → 0 + sum (wordsOf (k - 0) (drop (2 + 2 * 0) m)) ≡ rowsBefore m k
+unfolding rowsBefore sizesIn
+before-start m k = rw sub-zero (omega arith)
+
+module _ (m : List ℕ) (k i s x : ℕ) (inv : s + sum (wordsOf (k - i) (drop (2 + 2 * i) m)) ≡ x) where
+  pub before-turn : i < k → (n : ℕ) → n ≡ sizeAt m i → s + n + sum (wordsOf (k - (i + 1)) (drop (2 + 2 * (i + 1)) m)) ≡ x
+  unfolding wordsOf sum sizeAt part
+  before-turn l n e =
+      let f : k - i ≡ suc (k - (i + 1)) = omega arith in
+      let g : 2 + 2 * i + 2 ≡ 2 + 2 * (i + 1) = omega arith in
+      omega (arith, rw (f, drop-drop 2 (2 + 2 * i) m, g) at inv)
+
+  pub before-end : k ≤ i → s ≡ x
+  unfolding wordsOf sum
+  before-end l = let f : k - i ≡ 0 = omega arith in omega (arith, rw f at inv)
+
+-- ---- the counts
+
+module _ (m : List ℕ) (n r : ℕ) (p : n ≡ countIn m) (q : r ≡ rowsBefore m n) where
+  pub few-rows : (k : ℕ) → rowsBefore m (countIn m) ≤ k → r ≤ k
+  few-rows k h = rw (q, p) h
+
+  pub read-counts : (s : ℕ) (c : Counts) → s ≡ stringsBefore m r → c ≡ countsOf n r s → c ≡ countsIn m
+  unfolding countsIn
+  read-counts s c t e = e ∙ rw (t, q, p)

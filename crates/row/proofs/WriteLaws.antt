@@ -1,0 +1,125 @@
+-- What the writers' steps come to, over plain values.
+-- Assumes nothing.
+use mathlib.Core.Path.{_≡_, sym, ap, ap₂, _∙_}
+use mathlib.Core.Bool.{true, false}
+use mathlib.Core.List.{List, [], _∷_, _++_}
+use Prim.Native.Nat.{ℕ, suc, _+_, _-_, _*_, _<_, _≤_, min}
+use native.Mathlib.Decide.{decLe}
+use native.Mathlib.Nat.{add-zero, sub-zero}
+use native.Mathlib.Numerals.{add-one}
+use native.Mathlib.Omega.{arith}
+use lib.Dec.{leb, ltb}
+use lib.ListN.{length, take, drop, set, replicate-append-replicate}
+use lib.Seq.{take-suc-set, take-all, drop-drop}
+use borrow.Author.Tests.{lt-ltb, le-ltb, le-leb, lt-leb, ltb-true, leb-true}
+use Rattle.answer.specs.declared.counts.Counts.{Counts}
+use Rattle.answer.specs.Limits.{countsOf}
+use Rattle.ground.specs.Bytes.{store}
+use Rattle.ground.proofs.Laws.{and-true, store-then}
+use Rattle.ground.specs.Numbers.{lowFirst}
+use Rattle.row.specs.Layout.{rowLimit, stringLimit, rowSize, rowsStart, stringsStart}
+use Rattle.row.specs.Rows.{Row, rowOf, encodeFront, encodeRow, rowsOf}
+use Rattle.row.specs.Sets.{zeros, rowsFrom}
+use Rattle.row.specs.Memory.{entryAt, textAt, rowAt, most, counted, hasRoom, written, pushed, countedAll, pushedAll, declared}
+use Rattle.row.specs.declared.Entry.{Entry}
+use Rattle.row.proofs.NumberLaws.{length-bytes}
+use Rattle.row.proofs.RowLaws.{length-front}
+
+-- ---- clearing: the bytes passed are zero
+
+pub clear-turn : (m : List ℕ) (i : ℕ) → i < length m → take i m ≡ zeros i → take (i + 1) (set m i 0) ≡ zeros (i + 1)
+clear-turn m i l e = rw (add-one i) (take-suc-set m i 0 l) ∙ ap (λ (x : List ℕ). x ++ zeros 1) e ∙ replicate-append-replicate i 1 0
+
+pub clear-end : (m : List ℕ) (i n : ℕ) → length m ≡ n → i ≤ length m → length m ≤ i → take i m ≡ zeros i → m ≡ zeros n
+clear-end m i n e h k t =
+    let f : i ≡ n = omega arith in
+    sym (take-all i m k) ∙ t ∙ ap zeros f
+
+-- ---- room
+
+leb-move : (s n l : ℕ) → n ≤ l → leb s (l - n) ≡ leb (s + n) l
+leb-move s n l h = elim (decLe s (l - n)) [ yes k ↦ le-leb s (l - n) k ∙ sym (le-leb (s + n) l (omega arith)) | no k ↦ lt-leb s (l - n) (omega arith) ∙ sym (lt-leb (s + n) l (omega arith)) ]
+
+module _ (c : Counts) (n : ℕ) where
+  pub full : rowLimit ≤ c .rows → false ≡ hasRoom c n
+  unfolding hasRoom
+  full h = rw (le-ltb (c .rows) rowLimit h)
+
+  pub too-long : c .rows < rowLimit → stringLimit < n → false ≡ hasRoom c n
+  unfolding hasRoom
+  too-long h k = rw (lt-ltb (c .rows) rowLimit h, lt-leb (c .«string_bytes» + n) stringLimit (omega arith))
+
+  pub room-test : c .rows < rowLimit → n ≤ stringLimit → leb (c .«string_bytes») (stringLimit - n) ≡ hasRoom c n
+  unfolding hasRoom
+  room-test h k = rw (lt-ltb (c .rows) rowLimit h) (leb-move (c .«string_bytes») n stringLimit k)
+
+  pub room-true : hasRoom c n ≡ true → (c .rows < rowLimit) × (c .«string_bytes» + n ≤ stringLimit)
+  unfolding hasRoom
+  room-true e =
+      let p = and-true (ltb (c .rows) rowLimit) _ e in
+      (ltb-true _ _ (p .0), leb-true _ _ (p .1))
+
+  pub count-is : (r : Counts) (x y : ℕ) → x ≡ min (c .rows + 1) most → y ≡ min (c .«string_bytes» + n) most → r ≡ countsOf (c .declarations) x y → r ≡ counted c n
+  unfolding counted
+  count-is r x y p q e = e ∙ ap₂ (λ (u v : ℕ). countsOf (c .declarations) u v) p q
+
+-- ---- one row
+
+pub row-parts : (m m₁ m₂ m₃ m₄ : List ℕ) (at o : ℕ) (r : Row) (f s q z : List ℕ) → f ≡ encodeFront o r → s ≡ lowFirst 8 (r .size) → q ≡ lowFirst 8 (r .precision) → z ≡ lowFirst 8 (r .scale)
+    → m₁ ≡ store m at f → m₂ ≡ store m₁ (at + 10) s → m₃ ≡ store m₂ (at + 18) q → m₄ ≡ store m₃ (at + 26) z → m₄ ≡ store m at (encodeRow o r)
+unfolding encodeRow
+row-parts m m₁ m₂ m₃ m₄ at o r f s q z ef es eq ez h₁ h₂ h₃ h₄ =
+    let lf : length f ≡ 10 = ap length ef ∙ length-front o r in
+    let ls : length s ≡ 8 = ap length es ∙ length-bytes 8 (r .size) in
+    let lq : length q ≡ 8 = ap length eq ∙ length-bytes 8 (r .precision) in
+    store-then m m₁ m₄ at (at + 10) f (s ++ (q ++ z)) h₁
+    (store-then m₁ m₂ m₄ (at + 10) (at + 18) s (q ++ z) h₂ (store-then m₂ m₃ m₄ (at + 18) (at + 26) q z h₃ h₄ (omega arith)) (omega arith))
+    (omega arith)
+    ∙ rw (ef, es, eq, ez)
+
+pub both-written : (m m₁ m₂ : List ℕ) (c : Counts) (r : Row) → m₁ ≡ store m (rowsStart + rowSize * c .rows) (encodeRow (c .«string_bytes») r) → m₂ ≡ store m₁ (stringsStart + c .«string_bytes») (r .text) → m₂ ≡ written m c r
+unfolding written
+both-written m m₁ m₂ c r p q = q ∙ ap (λ (x : List ℕ). store x (stringsStart + c .«string_bytes») (r .text)) p
+
+module _ (m : List ℕ) (c : Counts) (r : Row) where
+  pub no-push : hasRoom c (length (r .text)) ≡ false → m ≡ pushed m c r
+  unfolding pushed
+  no-push e = rw e
+
+  pub a-push : hasRoom c (length (r .text)) ≡ true → (m′ : List ℕ) → m′ ≡ written m c r → m′ ≡ pushed m c r
+  unfolding pushed
+  a-push e m′ h = rw e h
+
+-- ---- one declaration
+
+pub two-words : (m m₁ m₂ : List ℕ) (k n : ℕ) (a b : List ℕ) → a ≡ lowFirst 2 n → b ≡ lowFirst 2 (k + 1) → m₁ ≡ store m (2 + 2 * k) a → m₂ ≡ store m₁ 0 b → m₂ ≡ declared m k n
+unfolding declared
+two-words m m₁ m₂ k n a b p q e f = f ∙ rw (e, p, q)
+
+-- ---- many rows of another memory: those that are left
+
+rows-left : (f : List ℕ) (s n i : ℕ) → i < n → rowsFrom f (n - i) (s + i) ≡ rowAt f (s + i) ∷ rowsFrom f (n - (i + 1)) (s + (i + 1))
+unfolding rowsFrom rowsOf entryAt textAt
+rows-left f s n i l =
+    let e : n - i ≡ suc (n - (i + 1)) = omega arith in
+    let g : rowsStart + rowSize * (s + i) + rowSize ≡ rowsStart + rowSize * (s + (i + 1)) = omega arith in
+    rw e (ap (λ (x : List ℕ). rowAt f (s + i) ∷ rowsOf (drop stringsStart f) (n - (i + 1)) x) (drop-drop rowSize (rowsStart + rowSize * (s + i)) f ∙ ap (λ (k : ℕ). drop k f) g))
+
+no-rows-left : (f : List ℕ) (s n i : ℕ) → n ≤ i → rowsFrom f (n - i) (s + i) ≡ []
+unfolding rowsFrom rowsOf
+no-rows-left f s n i l = let e : n - i ≡ 0 = omega arith in rw e
+
+pub push-start : (f : List ℕ) (s n : ℕ) → rowsFrom f (n - 0) (s + 0) ≡ rowsFrom f n s
+push-start f s n = rw (sub-zero, add-zero)
+
+module _ (f m x : List ℕ) (s n i : ℕ) (c y : Counts) (p : countedAll c (rowsFrom f (n - i) (s + i)) ≡ y) (q : pushedAll m c (rowsFrom f (n - i) (s + i)) ≡ x) where
+  pub push-turn : i < n → (e : Entry) (t : List ℕ) → e ≡ entryAt f (s + i) → t ≡ textAt f (s + i) → (c′ : Counts) (m′ : List ℕ) → c′ ≡ counted c (length t) → m′ ≡ pushed m c (rowOf e t)
+      → (countedAll c′ (rowsFrom f (n - (i + 1)) (s + (i + 1))) ≡ y) × (pushedAll m′ c′ (rowsFrom f (n - (i + 1)) (s + (i + 1))) ≡ x)
+  unfolding countedAll pushedAll
+  push-turn l e t he ht c′ m′ hc hm =
+      let left = rows-left f s n i l in
+      (rw (hc, ht) (rw left at p), rw (hc, hm, he, ht) (rw left at q))
+
+  pub push-end : n ≤ i → (c ≡ y) × (m ≡ x)
+  unfolding countedAll pushedAll
+  push-end l = let none = no-rows-left f s n i l in (rw none at p, rw none at q)

@@ -1,0 +1,55 @@
+-- `row::tidy::tidy_row` meets its contract: the kind, where the string lies, where it ends.
+-- Assumes nothing.
+use Rattle.row.proofs.TestLaws.{no-such-kind, other-start, start-there}
+use borrow.Author.Needs.{needs}
+use Rattle.row.proofs.tidy.tidy_row.Statement.{statement}
+use Rattle.row.proofs.tidy.tidy_row.Tie as tie
+
+mul-number : tie.Need-mul-number
+mul-number c = search needs
+
+add-number : tie.Need-add-number
+add-number c = search needs
+
+shared-slice-read-number : tie.Need-shared-slice-read-number
+shared-slice-read-number c = search needs
+
+of-requires : tie.Need-of-requires
+of-requires c κs = search needs
+
+number-requires : tie.Need-number-requires
+number-requires c κs = search needs
+
+returns : tie.Need-returns
+returns c = no-such-kind _ (c .before .before .before .before .before .args .i) (c .before .before .before .before .before .args .end) _ _ (c .before .before .of .ensures) (c .before .number .ensures) (c .if1 .taken)
+
+text-start-requires : tie.Need-text-start-requires
+text-start-requires c κs = search needs
+
+returns-2 : tie.Need-returns-2
+returns-2 c = other-start _ (c .before .before .before .before .before .before .before .args .i) (c .before .before .before .before .before .before .before .args .end) _ _ (c .before .before .before .before .of .ensures) (c .before .before .before .number .ensures) (c .before .before .if1 .left) _ (c .before .text-start .ensures .0) (c .if2 .taken)
+
+text-length-requires : tie.Need-text-length-requires
+text-length-requires c κs = search needs
+
+add-result : tie.Need-add-result
+add-result c = search needs
+
+returns-3 : tie.Need-returns-3
+returns-3 c = start-there _ (c .before .before .before .before .before .before .before .before .args .i) (c .before .before .before .before .before .before .before .before .args .end) _ _ (c .before .before .before .before .before .of .ensures) (c .before .before .before .before .number .ensures) (c .before .before .before .if1 .left) _ (c .before .before .text-start .ensures .0) (c .before .if2 .left) _ (c .text-length .ensures .0)
+
+pub tidy-row-spec : {M : Type 1} → statement M
+tidy-row-spec =
+    tie.close
+    (tie.spec
+    mul-number
+    add-number
+    shared-slice-read-number
+    of-requires
+    number-requires
+    returns
+    text-start-requires
+    returns-2
+    text-length-requires
+    add-result
+    returns-3)

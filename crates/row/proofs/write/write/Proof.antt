@@ -1,0 +1,43 @@
+-- `row::write::write` meets its contract: the row, then its string.
+-- Assumes nothing.
+use Rattle.row.proofs.WriteLaws.{both-written}
+use borrow.Author.Needs.{needs}
+use Rattle.row.proofs.write.write.Statement.{statement}
+use Rattle.row.proofs.write.write.Tie as tie
+
+mul-write-row : tie.Need-mul-write-row
+mul-write-row c = search needs
+
+add-write-row : tie.Need-add-write-row
+add-write-row c = search needs
+
+cast-write-row : tie.Need-cast-write-row
+cast-write-row c = search needs
+
+write-row-requires : tie.Need-write-row-requires
+write-row-requires c κs = search needs
+
+add-copy : tie.Need-add-copy
+add-copy c = search needs
+
+copy-requires : tie.Need-copy-requires
+copy-requires c κs = search needs
+
+same-length : tie.Need-same-length
+same-length c = search needs
+
+returns : tie.Need-returns
+returns c = both-written _ _ _ (c .before .before .before .before .before .before .before .before .before .before .args .counts) _ (c .before .before .before .before .before .before .write-row .ensures) (c .before .before .copy .ensures)
+
+pub write-spec : {M : Type 1} → statement M
+write-spec =
+    tie.close
+    (tie.spec
+    mul-write-row
+    add-write-row
+    cast-write-row
+    write-row-requires
+    add-copy
+    copy-requires
+    same-length
+    returns)

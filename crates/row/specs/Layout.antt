@@ -1,0 +1,31 @@
+-- Where things lie in a set's memory (docs/LAYOUT.md), and document 01's limits.
+-- Assumes nothing.
+use Prim.Native.Nat.{ℕ, _+_, _*_}
+
+abbrev pub declarationLimit : ℕ
+declarationLimit = 32
+
+abbrev pub rowLimit : ℕ
+rowLimit = 1024
+
+abbrev pub stringLimit : ℕ
+stringLimit = 16384
+
+-- the header: the number of declarations, then how many rows each place has, in two bytes each
+abbrev pub headerSize : ℕ
+headerSize = 2 + 2 * declarationLimit
+
+abbrev pub rowSize : ℕ
+rowSize = 34
+
+abbrev pub rowsStart : ℕ
+rowsStart = headerSize
+
+abbrev pub rowsSize : ℕ
+rowsSize = rowSize * rowLimit
+
+abbrev pub stringsStart : ℕ
+stringsStart = rowsStart + rowsSize
+
+abbrev pub layoutLength : ℕ
+layoutLength = stringsStart + stringLimit

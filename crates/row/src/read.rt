@@ -1,0 +1,133 @@
+// Reading a set's memory.
+use crate::Entry;
+use crate::kind::Kind;
+use crate::layout::Layout;
+use crate::number::u16_at;
+use crate::number::u64_at;
+use answer::Counts;
+ghost use mathlib.Core.Path.{_≡_};
+ghost use Prim.Native.Nat.{_≤_, _<_};
+ghost use lib.ListN.{length};
+ghost use Rattle.ground.specs.Bytes.{part};
+ghost use Rattle.row.specs.Layout.{declarationLimit, rowLimit, layoutLength};
+ghost use Rattle.row.specs.Rows.{textStart, textLength};
+ghost use Rattle.row.specs.Sets.{countIn};
+ghost use Rattle.row.specs.Memory.{fromRow, entryAt, textAt, sizeAt, rowsBefore, stringsBefore, countsIn};
+
+// The kind of row i.
+pub fn kind_at(mem: &[u8], i: usize) -> Kind
+    requires { ⌜ (length (now mem) ≡ layoutLength) × (i < rowLimit) ⌝ }
+    ensures { λ r. ⌜ r ≡ entryAt (now (mem .entry)) i .kind ⌝ }
+{
+    let at = Layout::ROWS + Layout::ROW * i;
+    Kind::of(mem[at])
+}
+
+// Row i, all but its string.
+pub fn read_row(mem: &[u8], i: usize) -> Entry
+    requires { ⌜ (length (now mem) ≡ layoutLength) × (i < rowLimit) ⌝ }
+    ensures { λ r. ⌜ r ≡ entryAt (now (mem .entry)) i ⌝ }
+{
+    let at = Layout::ROWS + Layout::ROW * i;
+    Entry {
+        kind: Kind::of(mem[at]),
+        depth: u16_at(mem, at + 2),
+        position: u16_at(mem, at + 4),
+        size: u64_at(mem, at + 10),
+        note: mem[at + 1],
+        precision: u64_at(mem, at + 18),
+        scale: u64_at(mem, at + 26),
+    }
+}
+
+// How long the string of row i is.
+pub(crate) fn text_length(mem: &[u8], i: usize) -> usize
+    requires { ⌜ (length (now mem) ≡ layoutLength) × (i < rowLimit) ⌝ }
+    ensures { λ r. ⌜ (r ≡ textLength (fromRow (now (mem .entry)) i)) × (r < 65536) ⌝ }
+{
+    let at = Layout::ROWS + Layout::ROW * i;
+    u16_at(mem, at + 6) as usize
+}
+
+// Where it lies in the string area.
+pub(crate) fn text_start(mem: &[u8], i: usize) -> usize
+    requires { ⌜ (length (now mem) ≡ layoutLength) × (i < rowLimit) ⌝ }
+    ensures { λ r. ⌜ (r ≡ textStart (fromRow (now (mem .entry)) i)) × (r < 65536) ⌝ }
+{
+    let at = Layout::ROWS + Layout::ROW * i;
+    u16_at(mem, at + 8) as usize
+}
+
+// The n bytes of s from a place on, or as many of them as there are.
+fn cut(s: &[u8], at: usize, n: usize) -> &[u8]
+    ensures { λ r. ⌜ now r ≡ part (now (s .entry)) at n ⌝ }
+{
+    if s.len() <= at {
+        return &s[0..0];
+    }
+    if s.len() - at <= n {
+        return &s[at..];
+    }
+    &s[at..at + n]
+}
+
+// The string of row i, a part of the memory; of one that does not lie in the string area, the part that does.
+pub fn string_of(mem: &[u8], i: usize) -> &[u8]
+    requires { ⌜ (length (now mem) ≡ layoutLength) × (i < rowLimit) ⌝ }
+    ensures { λ r. ⌜ now r ≡ textAt (now (mem .entry)) i ⌝ }
+{
+    let start = text_start(mem, i);
+    let n = text_length(mem, i);
+    cut(&mem[Layout::STRINGS..], start, n)
+}
+
+// How many string bytes the first n rows have.
+pub fn strings_before(mem: &[u8], n: usize) -> usize
+    requires { ⌜ (length (now mem) ≡ layoutLength) × (n ≤ rowLimit) ⌝ }
+    ensures { λ r. ⌜ r ≡ stringsBefore (now (mem .entry)) n ⌝ }
+{
+    if n == 0 {
+        return 0;
+    }
+    text_start(mem, n - 1) + text_length(mem, n - 1)
+}
+
+// The number of declarations.
+pub fn declarations(mem: &[u8]) -> usize
+    requires { ⌜ length (now mem) ≡ layoutLength ⌝ }
+    ensures { λ r. ⌜ r ≡ countIn (now (mem .entry)) ⌝ }
+{
+    u16_at(mem, 0) as usize
+}
+
+// How many rows the declaration at a place has.
+pub fn rows_of(mem: &[u8], place: usize) -> usize
+    requires { ⌜ (length (now mem) ≡ layoutLength) × (place < declarationLimit) ⌝ }
+    ensures { λ r. ⌜ (r ≡ sizeAt (now (mem .entry)) place) × (r < 65536) ⌝ }
+{
+    u16_at(mem, 2 + 2 * place) as usize
+}
+
+// How many rows the declarations before a place have.
+pub fn rows_before(mem: &[u8], place: usize) -> usize
+    requires { ⌜ (length (now mem) ≡ layoutLength) × (place ≤ declarationLimit) ⌝ }
+    ensures { λ r. ⌜ r ≡ rowsBefore (now (mem .entry)) place ⌝ }
+{
+    let mut sum = 0;
+    let mut i = 0;
+    while i < place {
+        sum += rows_of(mem, i);
+        i += 1;
+    }
+    sum
+}
+
+// The three counts of the set.
+pub fn counts(mem: &[u8]) -> Counts
+    requires { ⌜ (length (now mem) ≡ layoutLength) × (countIn (now mem) ≤ declarationLimit) × (rowsBefore (now mem) (countIn (now mem)) ≤ rowLimit) ⌝ }
+    ensures { λ r. ⌜ r ≡ countsIn (now (mem .entry)) ⌝ }
+{
+    let n = declarations(mem);
+    let rows = rows_before(mem, n);
+    Counts::new(n, rows, strings_before(mem, rows))
+}
