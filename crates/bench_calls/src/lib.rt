@@ -5,6 +5,7 @@ ghost use lib.ListN.{length};
 ghost use Rattle.bench_calls.specs.Places.{placeOf};
 ghost use Rattle.json.specs.Json.{scanned};
 ghost use Rattle.rabin.specs.Rabin.{rabinOf};
+ghost use Rattle.resolve.specs.WellFormed.{wellFormed};
 
 #[no_mangle]
 pub extern "C" fn bench_fingerprint(bytes: &[u8]) -> i64
@@ -22,4 +23,11 @@ pub extern "C" fn bench_scan(text: &[u8]) -> usize
         Scan::Whole => text.len(),
         Scan::Bad(f) => f.at,
     }
+}
+
+#[no_mangle]
+pub extern "C" fn bench_well_formed(memory: &[u8]) -> bool
+    ensures { λ r. ⌜ r ≡ wellFormed (now (memory .entry)) ⌝ }
+{
+    resolve::well_formed(memory)
 }

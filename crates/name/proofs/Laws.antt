@@ -1,6 +1,6 @@
 -- The laws of names that callers cite. Assumes nothing.
 use mathlib.Core.Path.{_≡_, refl, sym, ap, _∙_}
-use mathlib.Core.Bool.{Bool, true, false, not, cond, _&&_, _||_, and-true, and-false, and-assoc, or-false, or-true, and-eq-true-iff}
+use mathlib.Core.Bool.{Bool, true, false, not, cond, _&&_, _||_, and-true, and-false, and-assoc, or-false, or-true, or-assoc, and-eq-true-iff}
 use mathlib.Mathlib.Data.Bool.Basic.{or-eq-false-eq-eq-false-and-eq-false as or-eq-false}
 use mathlib.Core.List.{List, [], _∷_, _++_}
 use Prim.Native.Nat.{ℕ, _+_, _-_, _<_, _≤_}
@@ -11,13 +11,20 @@ use lib.Dec.{eqb}
 use lib.ListN.{length, take, drop, length-append, length-drop}
 use lib.Seq.{take-append-seam}
 use borrow.Author.Tests.{eq-eqb, eqb-true, le-leb, lt-leb}
-use Rattle.name.specs.Name.{every, isEmpty, isWithin, isLetter, isDigit, isFirst, isLater, isSimple, dot, joined, parts, isDotted, startsWithDot, isName, isNamespace, hasDot, fullName, lastOf, lastPart, namespacePart, isReserved}
-use Rattle.ground.specs.Bytes.{store}
+use Rattle.name.specs.Name.{every, isEmpty, isOneOf, isWithin, isLetter, isDigit, isFirst, isLater, isSimple, dot, joined, parts, isDotted, startsWithDot, isName, isNamespace, hasDot, fullName, lastOf, lastPart, namespacePart, isReserved}
+use Rattle.ground.specs.Bytes.{same, store}
 use Rattle.ground.proofs.Laws.{length-store, store-fits}
 use Rattle.name.specs.Full.{isShort, answerOf, bufferAfter}
 use Rattle.name.specs.declared.qualify.Full.{Full}
 use Rattle.name.specs.declared.qualify.Full.the-variants.{Fits, TooLong}
 use Rattle.name.proofs.Parts.{never, parted, parts-dot, parts-plain, joined-parts, last-snoc, front-snoc}
+
+-- ---- one of some strings
+
+pub one-of-append : (a b : List (List ℕ)) (s : List ℕ) → isOneOf (a ++ b) s ≡ (isOneOf a s || isOneOf b s)
+unfolding isOneOf
+one-of-append [] b s = refl
+one-of-append (w ∷ a) b s = ap (λ (x : Bool). same s w || x) (one-of-append a b s) ∙ sym (or-assoc (same s w) (isOneOf a s) (isOneOf b s))
 
 -- ---- no bytes
 

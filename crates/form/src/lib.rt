@@ -1,0 +1,36 @@
+// What a declaration's text says at a place, and the checks that need no row: forms, names, notes, and the rules 11, 13 to 16 and 19.
+pub mod check;
+pub mod fields;
+pub mod forms;
+pub mod names;
+pub mod note;
+pub mod spots;
+pub mod standing;
+pub mod symbols;
+pub mod unions;
+
+pub use check::Check;
+pub use check::must;
+pub use fields::field_names;
+pub use forms::Form;
+pub use forms::Found;
+pub use forms::find;
+pub use forms::word_kind;
+pub use names::Named;
+pub use names::alias;
+pub use names::definition;
+pub use names::reference;
+pub use names::simple_check;
+pub use note::Note;
+pub use note::decimal_note;
+pub use spots::all_texts;
+pub use spots::as_array;
+pub use spots::as_text;
+pub use spots::first_alias;
+pub use spots::is_object;
+pub use spots::is_text;
+pub use standing::Standing;
+pub use symbols::default_check;
+pub use symbols::symbols_check;
+pub use unions::new_kind;
+pub use unions::new_name;

@@ -1,0 +1,150 @@
+// The strings of a declaration that have to be names: their full names, and the checks 7, 8, 9.
+use super::check::Check;
+use super::check::must;
+use super::spots::as_text;
+use answer::Fault;
+use answer::Why;
+use name::Full;
+use name::full_name;
+use name::has_dot;
+use name::is_name;
+use name::is_namespace;
+use name::is_reserved;
+use name::is_simple;
+use view::Members;
+use view::Spot;
+use view::string_copy;
+ghost use mathlib.Core.Path.{_≡_};
+ghost use Prim.Native.Nat.{_≤_};
+ghost use lib.ListN.{length};
+ghost use Rattle.ground.specs.Bytes.{store};
+ghost use Rattle.name.specs.Name.{fullName};
+ghost use Rattle.view.specs.Strings.{stringAt};
+ghost use Rattle.form.specs.Checks.{_then_};
+ghost use Rattle.form.specs.Names.{notAName, kept, unreserved, simpleCheck, fullAt, referenceCheck, aliasCheck, definedAt, definitionCheck, named, keptIn};
+
+// What became of a full name: its length, it being kept, or the fault.
+pub enum Named {
+    Kept(usize),
+    Wrong(Fault),
+}
+
+// Where 7 stands.
+fn not_a_name(text: &[u8], at: usize) -> Fault
+    ensures { λ r. ⌜ r ≡ notAName (now (text .entry)) at ⌝ }
+{
+    Fault {
+        why: Why::NotAName,
+        at,
+    }
+}
+
+// A field's name or alias, a symbol: the string at `at` must be a simple name.
+pub fn simple_check(text: &[u8], at: usize, word: &mut [u8; 32768]) -> Check
+    requires { ⌜ length (now text) ≤ 32768 ⌝ }
+    ensures { λ r. ⌜ (r ≡ simpleCheck (now (text .entry)) at) × (now (word .exit) ≡ store (now (word .entry)) 0 (stringAt (now (text .entry)) at)) ⌝ }
+{
+    let n = string_copy(text, at, word);
+    let all = &word[..];
+    if !is_simple(&all[0..n]) {
+        return Check::Bad(not_a_name(text, at));
+    }
+    must(n <= Full::LONGEST, Why::StringTooLong, at)
+}
+
+// The full name of what is written at `at`, in a namespace: 9.
+fn qualified(namespace: &[u8], written: &[u8], at: usize, full: &mut [u8; 255]) -> Named
+    ensures { λ r. ⌜ (r ≡ named (kept (fullName (now (namespace .entry)) (now (written .entry))) at) (fullName (now (namespace .entry)) (now (written .entry)))) × (now (full .exit) ≡ keptIn (now (full .entry)) (kept (fullName (now (namespace .entry)) (now (written .entry))) at) (fullName (now (namespace .entry)) (now (written .entry)))) ⌝ }
+{
+    match full_name(namespace, written, full) {
+        Full::Fits(n) => Named::Kept(n),
+        Full::TooLong => Named::Wrong(Fault {
+            why: Why::StringTooLong,
+            at,
+        }),
+    }
+}
+
+// The same of a name that is given to something: 8, 9. The last part of what is written is that of the full name.
+fn given(namespace: &[u8], written: &[u8], at: usize, full: &mut [u8; 255]) -> Named
+    ensures { λ r. ⌜ (r ≡ named (unreserved (fullName (now (namespace .entry)) (now (written .entry))) at then kept (fullName (now (namespace .entry)) (now (written .entry))) at) (fullName (now (namespace .entry)) (now (written .entry)))) × (now (full .exit) ≡ keptIn (now (full .entry)) (unreserved (fullName (now (namespace .entry)) (now (written .entry))) at then kept (fullName (now (namespace .entry)) (now (written .entry))) at) (fullName (now (namespace .entry)) (now (written .entry)))) ⌝ }
+{
+    if is_reserved(written) {
+        return Named::Wrong(Fault {
+            why: Why::Reserved,
+            at,
+        });
+    }
+    qualified(namespace, written, at, full)
+}
+
+// A reference: 7, 9.
+pub fn reference(
+    text: &[u8],
+    namespace: &[u8],
+    at: usize,
+    word: &mut [u8; 32768],
+    full: &mut [u8; 255],
+) -> Named
+    requires { ⌜ length (now text) ≤ 32768 ⌝ }
+    ensures { λ r. ⌜ (r ≡ named (referenceCheck (now (text .entry)) (now (namespace .entry)) at) (fullAt (now (text .entry)) (now (namespace .entry)) at)) × (now (full .exit) ≡ keptIn (now (full .entry)) (referenceCheck (now (text .entry)) (now (namespace .entry)) at) (fullAt (now (text .entry)) (now (namespace .entry)) at)) ⌝ }
+{
+    let n = string_copy(text, at, word);
+    let all = &word[..];
+    if !is_name(&all[0..n]) {
+        return Named::Wrong(not_a_name(text, at));
+    }
+    qualified(namespace, &all[0..n], at, full)
+}
+
+// An alias of a definition, in the definition's own namespace: 7, 8, 9.
+pub fn alias(
+    text: &[u8],
+    namespace: &[u8],
+    at: usize,
+    word: &mut [u8; 32768],
+    full: &mut [u8; 255],
+) -> Named
+    requires { ⌜ length (now text) ≤ 32768 ⌝ }
+    ensures { λ r. ⌜ (r ≡ named (aliasCheck (now (text .entry)) (now (namespace .entry)) at) (fullAt (now (text .entry)) (now (namespace .entry)) at)) × (now (full .exit) ≡ keptIn (now (full .entry)) (aliasCheck (now (text .entry)) (now (namespace .entry)) at) (fullAt (now (text .entry)) (now (namespace .entry)) at)) ⌝ }
+{
+    let n = string_copy(text, at, word);
+    let all = &word[..];
+    if !is_name(&all[0..n]) {
+        return Named::Wrong(not_a_name(text, at));
+    }
+    given(namespace, &all[0..n], at, full)
+}
+
+// A definition with these members, its name at `at`: 7, the namespace's 7, 8, 9.
+pub fn definition(
+    text: &[u8],
+    enclosing: &[u8],
+    members: Members,
+    at: usize,
+    word: &mut [u8; 32768],
+    space: &mut [u8; 32768],
+    full: &mut [u8; 255],
+) -> Named
+    requires { ⌜ length (now text) ≤ 32768 ⌝ }
+    ensures { λ r. ⌜ (r ≡ named (definitionCheck (now (text .entry)) (now (enclosing .entry)) members at) (definedAt (now (text .entry)) (now (enclosing .entry)) members at)) × (now (full .exit) ≡ keptIn (now (full .entry)) (definitionCheck (now (text .entry)) (now (enclosing .entry)) members at) (definedAt (now (text .entry)) (now (enclosing .entry)) members at)) ⌝ }
+{
+    let n = string_copy(text, at, word);
+    let all = &word[..];
+    if !is_name(&all[0..n]) {
+        return Named::Wrong(not_a_name(text, at));
+    }
+    if has_dot(&all[0..n]) {
+        return given(enclosing, &all[0..n], at, full);
+    }
+    let namespace = members.namespace;
+    let Spot::At(q) = as_text(text, namespace) else {
+        return given(enclosing, &all[0..n], at, full);
+    };
+    let k = string_copy(text, q, space);
+    let whole = &space[..];
+    if !is_namespace(&whole[0..k]) {
+        return Named::Wrong(not_a_name(text, q));
+    }
+    given(&whole[0..k], &all[0..n], at, full)
+}

@@ -1,0 +1,88 @@
+// A decimal's note, precision and scale.
+use super::spots::as_text;
+use view::Members;
+use view::Size;
+use view::Spot;
+use view::size_literal;
+use view::string_is;
+ghost use mathlib.Core.Path.{_≡_};
+ghost use Rattle.form.specs.Notes.{noted, compared, withScale, withPrecision, isDecimal, noteOf};
+
+// The note, 0 where there is no decimal; precision and scale where it is 1.
+pub struct Note {
+    pub note: u8,
+    pub precision: u64,
+    pub scale: u64,
+}
+
+fn noted(note: u8) -> Note
+    ensures { λ r. ⌜ r ≡ noted note ⌝ }
+{
+    Note {
+        note,
+        precision: 0,
+        scale: 0,
+    }
+}
+
+fn compared(precision: u64, scale: u64) -> Note
+    ensures { λ r. ⌜ r ≡ compared precision scale ⌝ }
+{
+    if precision == 0 {
+        return noted(5);
+    }
+    if precision < scale {
+        return noted(6);
+    }
+    Note {
+        note: 1,
+        precision,
+        scale,
+    }
+}
+
+fn with_scale(text: &[u8], members: Members, precision: u64) -> Note
+    ensures { λ r. ⌜ r ≡ withScale (now (text .entry)) members precision ⌝ }
+{
+    let spot = members.scale;
+    let Spot::At(p) = spot else {
+        return compared(precision, 0);
+    };
+    match size_literal(text, p) {
+        Size::Value(scale) => compared(precision, scale),
+        Size::NoSize => noted(4),
+    }
+}
+
+fn with_precision(text: &[u8], members: Members) -> Note
+    ensures { λ r. ⌜ r ≡ withPrecision (now (text .entry)) members ⌝ }
+{
+    let spot = members.precision;
+    let Spot::At(p) = spot else {
+        return noted(2);
+    };
+    match size_literal(text, p) {
+        Size::Value(precision) => with_scale(text, members, precision),
+        Size::NoSize => noted(3),
+    }
+}
+
+fn is_decimal(text: &[u8], members: Members) -> bool
+    ensures { λ r. ⌜ r ≡ isDecimal (now (text .entry)) members ⌝ }
+{
+    let spot = members.logical_type;
+    let Spot::At(p) = as_text(text, spot) else {
+        return false;
+    };
+    string_is(text, p, b"decimal")
+}
+
+// The note of the object with these members, whose own `type` is the string `bytes` or `fixed`.
+pub fn decimal_note(text: &[u8], members: Members) -> Note
+    ensures { λ r. ⌜ r ≡ noteOf (now (text .entry)) members ⌝ }
+{
+    if is_decimal(text, members) {
+        return with_precision(text, members);
+    }
+    noted(0)
+}

@@ -1,0 +1,1 @@
+// The rows of a declaration keep the rules of well-formedness.

@@ -1,0 +1,7 @@
+pub mod KindLaws
+pub mod MemoryLaws
+pub mod ResolveLaws
+pub mod TreeLaws
+pub mod DecodeLaws
+pub mod Laws
+pub mod RuleLaws

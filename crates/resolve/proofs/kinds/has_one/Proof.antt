@@ -1,0 +1,33 @@
+-- `resolve::kinds::has_one` meets its contract.
+-- Assumes nothing.
+use mathlib.Core.Path.{sym, _∙_}
+use Rattle.resolve.specs.Kinds.{hasOne}
+use borrow.Author.Needs.{needs}
+use Rattle.resolve.proofs.kinds.has_one.Statement.{statement}
+use Rattle.resolve.proofs.kinds.has_one.Tie as tie
+
+is-kind-requires : tie.Need-is-kind-requires
+is-kind-requires c κs = search needs
+
+returns : tie.Need-returns
+unfolding hasOne
+returns c = rw (sym (c .before .is-kind .ensures) ∙ c .if1 .taken)
+
+is-kind-requires-2 : tie.Need-is-kind-requires-2
+is-kind-requires-2 c κs = search needs
+
+returns-2 : tie.Need-returns-2
+unfolding hasOne
+returns-2 c = rw (sym (c .before .before .before .is-kind .ensures) ∙ c .before .before .if1 .left, sym (c .before .is-kind2 .ensures) ∙ c .if2 .taken)
+
+is-kind-requires-3 : tie.Need-is-kind-requires-3
+is-kind-requires-3 c κs = search needs
+
+returns-3 : tie.Need-returns-3
+unfolding hasOne
+returns-3 c = rw (sym (c .before .before .before .before .is-kind .ensures) ∙ c .before .before .before .if1 .left, sym (c .before .before .is-kind2 .ensures) ∙ c .before .if2 .left) (c .is-kind3 .ensures)
+
+pub has-one-spec : {M : Type 1} → statement M
+has-one-spec =
+    tie.close
+    (tie.spec is-kind-requires returns is-kind-requires-2 returns-2 is-kind-requires-3 returns-3)

@@ -1,0 +1,18 @@
+-- `resolve::kinds::is_schema` meets its contract.
+-- Assumes nothing.
+use Rattle.resolve.proofs.KindLaws.{schema-number}
+use borrow.Author.Needs.{needs}
+use Rattle.resolve.proofs.kinds.is_schema.Statement.{statement}
+use Rattle.resolve.proofs.kinds.is_schema.Tie as tie
+
+number-requires : tie.Need-number-requires
+number-requires c κs = search needs
+
+number-requires-2 : tie.Need-number-requires-2
+number-requires-2 c κs = search needs
+
+returns : tie.Need-returns
+returns c = cc (schema-number (c .before .before .args .k))
+
+pub is-schema-spec : {M : Type 1} → statement M
+is-schema-spec = tie.close (tie.spec number-requires number-requires-2 returns)

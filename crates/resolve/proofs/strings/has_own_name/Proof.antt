@@ -1,0 +1,29 @@
+-- `resolve::strings::has_own_name` meets its contract.
+-- Assumes nothing.
+use mathlib.Core.Path.{sym, _∙_}
+use borrow.Author.Needs.{needs}
+use Rattle.resolve.proofs.strings.has_own_name.Statement.{statement}
+use Rattle.resolve.proofs.strings.has_own_name.Tie as tie
+
+is-kind-requires : tie.Need-is-kind-requires
+is-kind-requires c κs = search needs
+
+returns : tie.Need-returns
+returns c = rw (sym (c .before .is-kind .ensures) ∙ c .if1 .taken)
+
+is-kind-requires-2 : tie.Need-is-kind-requires-2
+is-kind-requires-2 c κs = search needs
+
+returns-2 : tie.Need-returns-2
+returns-2 c = rw (sym (c .before .before .before .is-kind .ensures) ∙ c .before .before .if1 .left, sym (c .before .is-kind2 .ensures) ∙ c .if2 .taken)
+
+is-kind-requires-3 : tie.Need-is-kind-requires-3
+is-kind-requires-3 c κs = search needs
+
+returns-3 : tie.Need-returns-3
+returns-3 c = rw (sym (c .before .before .before .before .is-kind .ensures) ∙ c .before .before .before .if1 .left, sym (c .before .before .is-kind2 .ensures) ∙ c .before .if2 .left) (c .is-kind3 .ensures)
+
+pub has-own-name-spec : {M : Type 1} → statement M
+has-own-name-spec =
+    tie.close
+    (tie.spec is-kind-requires returns is-kind-requires-2 returns-2 is-kind-requires-3 returns-3)

@@ -1,0 +1,5 @@
+pub mod Kinds
+pub mod Rules
+pub mod Resolve
+pub mod WellFormed
+pub mod Steps

@@ -1,0 +1,63 @@
+// Whether bytes are a well-formed set.
+use crate::Resolution;
+use crate::declaration::is_declaration;
+use crate::names::first_fault;
+use row::read::declarations;
+use row::read::rows_before;
+use row::read::rows_of;
+use row::tidy::is_encoding;
+ghost use mathlib.Core.Path.{_≡_};
+ghost use mathlib.Core.List.{[]};
+ghost use Prim.Native.Nat.{_≤_};
+ghost use lib.ListN.{length};
+ghost use Rattle.name.specs.Name.{every};
+ghost use Rattle.row.specs.Layout.{declarationLimit, rowLimit, layoutLength};
+ghost use Rattle.row.specs.Sets.{countIn, rowsFrom, decode};
+ghost use Rattle.row.specs.Memory.{rowsBefore};
+ghost use Rattle.resolve.specs.Rules.{isDeclaration};
+ghost use Rattle.resolve.specs.Resolve.{faultIn, isResolved};
+ghost use Rattle.resolve.specs.WellFormed.{wellFormed};
+
+// Are the rows of each of the n places one declaration?
+fn are_declarations(mem: &[u8], n: usize) -> bool
+    requires { ⌜ (length (now mem) ≡ layoutLength) × (n ≡ countIn (now mem)) × (n ≤ declarationLimit) × (rowsBefore (now mem) n ≤ rowLimit) ⌝ }
+    ensures { λ r. ⌜ r ≡ every isDeclaration (decode (now (mem .entry))) ⌝ }
+{
+    let mut start = 0;
+    let mut place = 0;
+    while place < n {
+        let rows = rows_of(mem, place);
+        if !is_declaration(mem, start, rows) {
+            return false;
+        }
+        start += rows;
+        place += 1;
+    }
+    true
+}
+
+// Is 25 and 26 nowhere in the first n rows?
+fn is_resolved(mem: &[u8], n: usize) -> bool
+    requires { ⌜ (length (now mem) ≡ layoutLength) × (n ≤ rowLimit) ⌝ }
+    ensures { λ r. ⌜ r ≡ isResolved (faultIn [] (rowsFrom (now (mem .entry)) n 0)) ⌝ }
+{
+    let r = first_fault(mem, 0, mem, 0, n);
+    match r {
+        Resolution::Resolved => true,
+        Resolution::Faulty(_) => false,
+    }
+}
+
+// For any bytes: are they the encoding of a set that keeps the rules?
+pub fn well_formed(mem: &[u8]) -> bool
+    ensures { λ r. ⌜ r ≡ wellFormed (now (mem .entry)) ⌝ }
+{
+    if !is_encoding(mem) {
+        return false;
+    }
+    let n = declarations(mem);
+    if !are_declarations(mem, n) {
+        return false;
+    }
+    is_resolved(mem, rows_before(mem, n))
+}

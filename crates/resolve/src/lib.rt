@@ -1,0 +1,21 @@
+// Resolution of names over the rows of a set, and the exact test whether bytes are a well-formed set.
+mod clash;
+mod declaration;
+mod formed;
+mod kinds;
+mod names;
+mod numbers;
+mod strings;
+mod tree;
+
+use answer::Fault;
+pub use declaration::is_declaration;
+pub use formed::well_formed;
+pub use names::first_fault;
+pub use names::is_defined;
+
+// What became of a declaration's names: each resolves, or the first fault, with the position that its row recorded.
+pub enum Resolution {
+    Resolved,
+    Faulty(Fault),
+}

@@ -1,0 +1,79 @@
+// The string that a row keeps, by its kind.
+use crate::kinds::is_definition;
+use crate::kinds::is_kind;
+use name::Full;
+use name::is_dotted;
+use name::is_reserved;
+use name::is_simple;
+use row::Kind;
+ghost use mathlib.Core.Path.{_≡_};
+ghost use mathlib.Core.Bool.{not, _&&_, _||_};
+ghost use Rattle.name.specs.Name.{isReserved};
+ghost use Rattle.row.specs.declared.kind.Kind.the-variants.{Field, Symbol, Alias, FieldAlias};
+ghost use Rattle.resolve.specs.Kinds.{isKind, isDefinition};
+ghost use Rattle.resolve.specs.Rules.{isFullName, isOwnName, goodText};
+
+fn is_full_name(s: &[u8]) -> bool
+    ensures { λ r. ⌜ r ≡ isFullName (now (s .entry)) ⌝ }
+{
+    if Full::LONGEST < s.len() {
+        return false;
+    }
+    is_dotted(s)
+}
+
+fn is_own_name(s: &[u8]) -> bool
+    ensures { λ r. ⌜ r ≡ isOwnName (now (s .entry)) ⌝ }
+{
+    if Full::LONGEST < s.len() {
+        return false;
+    }
+    is_simple(s)
+}
+
+fn is_free_name(s: &[u8]) -> bool
+    ensures { λ r. ⌜ r ≡ (isFullName (now (s .entry)) && not (isReserved (now (s .entry)))) ⌝ }
+{
+    if is_full_name(s) {
+        return !is_reserved(s);
+    }
+    false
+}
+
+// Kinds whose string is a full name that a definition may have.
+fn defines_or_alias(kind: Kind) -> bool
+    ensures { λ r. ⌜ r ≡ (isDefinition kind || isKind Alias kind) ⌝ }
+{
+    if is_definition(kind) {
+        return true;
+    }
+    is_kind(Kind::Alias, kind)
+}
+
+// Kinds whose string is a simple name.
+fn has_own_name(kind: Kind) -> bool
+    ensures { λ r. ⌜ r ≡ (isKind Field kind || isKind FieldAlias kind || isKind Symbol kind) ⌝ }
+{
+    if is_kind(Kind::Field, kind) {
+        return true;
+    }
+    if is_kind(Kind::FieldAlias, kind) {
+        return true;
+    }
+    is_kind(Kind::Symbol, kind)
+}
+
+pub fn good_text(kind: Kind, text: &[u8]) -> bool
+    ensures { λ r. ⌜ r ≡ goodText kind (now (text .entry)) ⌝ }
+{
+    if defines_or_alias(kind) {
+        return is_free_name(text);
+    }
+    if is_kind(Kind::Reference, kind) {
+        return is_full_name(text);
+    }
+    if has_own_name(kind) {
+        return is_own_name(text);
+    }
+    text.len() == 0
+}

@@ -1,0 +1,49 @@
+-- `resolve_run::lines::clear` is safe and ends.
+-- Assumes nothing.
+use borrow.Author.Needs.{needs}
+use mathlib.Core.Path.{_≡_}
+use Prim.Native.Nat.{_-_, _≤_}
+use lib.ListN.{length}
+use Rattle.resolve_run.proofs.lines.clear.Statement.{statement}
+use Rattle.resolve_run.proofs.lines.clear.Tie as tie
+
+abbrev Inv-loop : tie.InvT-loop
+Inv-loop mem₀ i₀ mem i = (length mem ≡ length mem₀) × (i ≤ length mem₀)
+
+abbrev μ-loop : tie.MeasureT-loop
+μ-loop mem₀ i₀ mem i = length mem₀ - i
+
+loop-holds : tie.Need-loop-holds Inv-loop μ-loop
+loop-holds c = search needs
+
+slice-write-mem : tie.Need-slice-write-mem Inv-loop μ-loop
+slice-write-mem c = search needs
+
+add-i : tie.Need-add-i Inv-loop μ-loop
+add-i c = search needs
+
+loop-less : tie.Need-loop-less Inv-loop μ-loop
+loop-less c = search needs
+
+loop-again : tie.Need-loop-again Inv-loop μ-loop
+loop-again c = search needs
+
+same-length : tie.Need-same-length Inv-loop μ-loop
+same-length c = search needs
+
+returns : tie.Need-returns Inv-loop μ-loop
+returns c = search needs
+
+pub clear-spec : {M : Type 1} → statement M
+clear-spec =
+    tie.close
+    (tie.spec
+    Inv-loop
+    μ-loop
+    loop-holds
+    slice-write-mem
+    add-i
+    loop-less
+    loop-again
+    same-length
+    returns)

@@ -1,0 +1,1 @@
+// From a declaration's text to its rows.

@@ -1,0 +1,36 @@
+-- `view::ends::mode_after` meets its contract.
+-- Assumes nothing.
+use Rattle.view.specs.Ends.{modeAfter}
+use borrow.Author.Tests.{eq-eqb, ne-eqb}
+use Rattle.view.proofs.ends.mode_after.Statement.{statement}
+use Rattle.view.proofs.ends.mode_after.Tie as tie
+
+returns : tie.Need-returns
+unfolding modeAfter
+returns c = simp (eq-eqb _ _ (c .before .if1 .taken), eq-eqb _ _ (c .if2 .taken))
+
+returns-2 : tie.Need-returns-2
+unfolding modeAfter
+returns-2 c = simp (eq-eqb _ _ (c .before .if1 .taken), ne-eqb _ _ (c .if2 .left))
+
+returns-3 : tie.Need-returns-3
+unfolding modeAfter
+returns-3 c =
+    simp (ne-eqb _ _ (c .before .before .if1 .left), eq-eqb _ _ (c .before .if3 .taken), eq-eqb _ _ (c .if4 .taken))
+
+returns-4 : tie.Need-returns-4
+unfolding modeAfter
+returns-4 c =
+    simp (ne-eqb _ _ (c .before .before .before .if1 .left), eq-eqb _ _ (c .before .before .if3 .taken), ne-eqb _ _ (c .before .if4 .left), eq-eqb _ _ (c .if5 .taken))
+
+returns-5 : tie.Need-returns-5
+unfolding modeAfter
+returns-5 c =
+    simp (ne-eqb _ _ (c .before .before .before .if1 .left), eq-eqb _ _ (c .before .before .if3 .taken), ne-eqb _ _ (c .before .if4 .left), ne-eqb _ _ (c .if5 .left))
+
+returns-6 : tie.Need-returns-6
+unfolding modeAfter
+returns-6 c = simp (ne-eqb _ _ (c .before .if1 .left), ne-eqb _ _ (c .if3 .left))
+
+pub mode-after-spec : {M : Type 1} → statement M
+mode-after-spec = tie.close (tie.spec returns returns-2 returns-3 returns-4 returns-5 returns-6)

@@ -1,0 +1,66 @@
+-- `view::shape::is_value` meets its contract: in each arm the shape is known.
+-- Assumes nothing.
+use mathlib.Core.Path.{sym, ap}
+use borrow.Author.Needs.{needs}
+use Rattle.view.specs.Values.{isValue}
+use Rattle.view.proofs.shape.is_value.Statement.{statement}
+use Rattle.view.proofs.shape.is_value.Tie as tie
+
+enum-told : tie.Need-enum-told
+enum-told c = search needs
+
+enum-told-2 : tie.Need-enum-told-2
+enum-told-2 c = search needs
+
+enum-told-3 : tie.Need-enum-told-3
+enum-told-3 c = search needs
+
+enum-told-4 : tie.Need-enum-told-4
+enum-told-4 c = search needs
+
+enum-told-5 : tie.Need-enum-told-5
+enum-told-5 c = search needs
+
+enum-told-6 : tie.Need-enum-told-6
+enum-told-6 c = search needs
+
+returns : tie.Need-returns
+unfolding isValue
+returns c = sym (ap isValue (c .enum-told .given .1))
+
+returns-2 : tie.Need-returns-2
+unfolding isValue
+returns-2 c = sym (ap isValue (c .enum-told2 .given .1))
+
+returns-3 : tie.Need-returns-3
+unfolding isValue
+returns-3 c = sym (ap isValue (c .enum-told3 .given .1))
+
+returns-4 : tie.Need-returns-4
+unfolding isValue
+returns-4 c = sym (ap isValue (c .enum-told4 .given .1))
+
+returns-5 : tie.Need-returns-5
+unfolding isValue
+returns-5 c = sym (ap isValue (c .enum-told5 .given .1))
+
+returns-6 : tie.Need-returns-6
+unfolding isValue
+returns-6 c = sym (ap isValue (c .enum-told6 .given .1))
+
+pub is-value-spec : {M : Type 1} → statement M
+is-value-spec =
+    tie.close
+    (tie.spec
+    enum-told
+    enum-told-2
+    enum-told-3
+    enum-told-4
+    enum-told-5
+    enum-told-6
+    returns
+    returns-2
+    returns-3
+    returns-4
+    returns-5
+    returns-6)

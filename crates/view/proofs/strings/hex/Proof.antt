@@ -1,0 +1,73 @@
+-- `view::strings::hex` meets its contract.
+-- Assumes nothing.
+use Rattle.view.specs.Strings.{hexOf}
+use borrow.Author.Tests.{lt-ltb, le-ltb, le-leb, lt-leb}
+use native.Mathlib.Omega.{arith}
+use borrow.Author.Needs.{needs}
+use Rattle.view.proofs.strings.hex.Statement.{statement}
+use Rattle.view.proofs.strings.hex.Tie as tie
+
+returns : tie.Need-returns
+unfolding hexOf
+returns c = (simp (lt-ltb _ _ (c .if1 .taken)), omega arith)
+
+cast-result : tie.Need-cast-result
+cast-result c = search needs
+
+returns-2 : tie.Need-returns-2
+unfolding hexOf
+returns-2 c = (simp (le-ltb _ _ (c .before .if1 .left), le-leb _ _ (c .if2 .taken)), omega arith)
+
+returns-3 : tie.Need-returns-3
+unfolding hexOf
+returns-3 c =
+    (simp (le-ltb _ _ (c .before .before .if1 .left), lt-leb _ _ (c .before .if2 .left), lt-ltb _ _ (c .if3 .taken)), omega arith)
+
+sub-result : tie.Need-sub-result
+sub-result c = search needs
+
+cast-result-2 : tie.Need-cast-result-2
+cast-result-2 c = search needs
+
+returns-4 : tie.Need-returns-4
+unfolding hexOf
+returns-4 c =
+    (simp (le-ltb _ _ (c .before .before .before .if1 .left), lt-leb _ _ (c .before .before .if2 .left), le-ltb _ _ (c .before .if3 .left), le-leb _ _ (c .if4 .taken)), omega arith)
+
+returns-5 : tie.Need-returns-5
+unfolding hexOf
+returns-5 c =
+    (simp (le-ltb _ _ (c .before .before .before .before .if1 .left), lt-leb _ _ (c .before .before .before .if2 .left), le-ltb _ _ (c .before .before .if3 .left), lt-leb _ _ (c .before .if4 .left), lt-ltb _ _ (c .if5 .taken)), omega arith)
+
+sub-result-2 : tie.Need-sub-result-2
+sub-result-2 c = search needs
+
+cast-result-3 : tie.Need-cast-result-3
+cast-result-3 c = search needs
+
+returns-6 : tie.Need-returns-6
+unfolding hexOf
+returns-6 c =
+    (simp (le-ltb _ _ (c .before .before .before .before .before .if1 .left), lt-leb _ _ (c .before .before .before .before .if2 .left), le-ltb _ _ (c .before .before .before .if3 .left), lt-leb _ _ (c .before .before .if4 .left), le-ltb _ _ (c .before .if5 .left), le-leb _ _ (c .if6 .taken)), omega arith)
+
+returns-7 : tie.Need-returns-7
+unfolding hexOf
+returns-7 c =
+    (simp (le-ltb _ _ (c .before .before .before .before .before .if1 .left), lt-leb _ _ (c .before .before .before .before .if2 .left), le-ltb _ _ (c .before .before .before .if3 .left), lt-leb _ _ (c .before .before .if4 .left), le-ltb _ _ (c .before .if5 .left), lt-leb _ _ (c .if6 .left)), omega arith)
+
+pub hex-spec : {M : Type 1} → statement M
+hex-spec =
+    tie.close
+    (tie.spec
+    returns
+    cast-result
+    returns-2
+    returns-3
+    sub-result
+    cast-result-2
+    returns-4
+    returns-5
+    sub-result-2
+    cast-result-3
+    returns-6
+    returns-7)

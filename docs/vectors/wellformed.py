@@ -1,0 +1,317 @@
+#!/usr/bin/env python3
+"""Verdicts of well-formedness, by a decoder written from docs/LAYOUT.md and document 01 alone.
+
+    python3 docs/vectors/wellformed.py stdin  > crates/resolve_run/stdin
+    python3 docs/vectors/wellformed.py stdout > crates/resolve_run/stdout
+    python3 docs/vectors/wellformed.py cases       the first sets by name, with their verdicts
+
+A line of stdin is a command of the program resolve_run:
+    c            clear the memory
+    sAAAA BYTES  store the bytes from AAAA on (no blank between; all in hex)
+    jNNNN        judge the first NNNN bytes of the memory: one digit, 1 for well formed
+    dAAAANNNN    change each of the NNNN bytes from AAAA on to one more, one less and the high bit flipped, one change at
+                 a time, and judge the memory each time: three digits for each byte, then the end of the line
+    n            the end of the line
+"""
+import re
+import struct
+import sys
+
+LENGTH, ROWS, ROW, STRINGS = 51266, 66, 34, 34882
+KINDS = {1: "null", 2: "boolean", 3: "int", 4: "long", 5: "float", 6: "double", 7: "bytes", 8: "string", 16: "reference",
+         24: "array", 25: "map", 26: "union", 32: "record", 33: "enum", 34: "fixed", 40: "field", 41: "symbol", 48: "alias",
+         49: "field alias"}
+NUMBERS = {v: k for k, v in KINDS.items()}
+PRIMITIVES = {"null", "boolean", "int", "long", "float", "double", "bytes", "string"}
+DEFINITIONS = {"record", "enum", "fixed"}
+SCHEMAS = PRIMITIVES | DEFINITIONS | {"reference", "array", "map", "union"}
+RESERVED = {b"null", b"boolean", b"int", b"long", b"float", b"double", b"bytes", b"string", b"record", b"enum", b"fixed"}
+SIMPLE = re.compile(rb"[A-Za-z_][A-Za-z0-9_]*\Z")
+
+
+class Bad(Exception):
+    pass
+
+
+def need(fact):
+    if not fact:
+        raise Bad
+
+
+# ---- reading memory: docs/LAYOUT.md
+
+def declarations(mem):
+    need(len(mem) == LENGTH)
+    head = struct.unpack_from("<33H", mem)
+    n, counts = head[0], head[1:]
+    need(n <= 32)
+    need(not any(counts[n:]))
+    total = sum(counts[:n])
+    need(total <= 1024)
+    out, end, i = [], 0, 0
+    for k in range(n):
+        rows = []
+        for _ in range(counts[k]):
+            kind, note, depth, position, length, start, size, precision, scale = struct.unpack_from("<BBHHHHQQQ", mem, ROWS + ROW * i)
+            need(kind in KINDS)
+            need(start == end)
+            end += length
+            need(end <= 16384)
+            text = bytes(mem[STRINGS + start:STRINGS + end])
+            rows.append(dict(kind=KINDS[kind], note=note, depth=depth, position=position, text=text, size=size, precision=precision, scale=scale))
+            i += 1
+        out.append(rows)
+    need(not any(mem[ROWS + ROW * total:STRINGS]))
+    need(not any(mem[STRINGS + end:]))
+    return out
+
+
+# ---- the rules: document 01
+
+def dotted(s):
+    return all(SIMPLE.match(p) for p in s.split(b"."))
+
+
+def check_row(r):
+    kind, s = r["kind"], r["text"]
+    if kind in DEFINITIONS or kind == "alias":
+        need(dotted(s) and s.split(b".")[-1] not in RESERVED and len(s) <= 255)
+    elif kind == "reference":
+        need(dotted(s) and len(s) <= 255)
+    elif kind in ("field", "field alias", "symbol"):
+        need(SIMPLE.match(s) and len(s) <= 255)
+    else:
+        need(s == b"")
+    need(r["position"] < 32768)
+    need(kind == "fixed" or r["size"] == 0)
+    need(r["note"] <= (6 if kind in ("bytes", "fixed") else 0))
+    if r["note"] == 1:
+        need(r["precision"] >= 1 and r["precision"] >= r["scale"])
+    else:
+        need(r["precision"] == 0 and r["scale"] == 0)
+
+
+def tree(rows):
+    """The root, with its children, each the child of the nearest row before it that is one less deep."""
+    need(rows)
+    need(rows[0]["depth"] == 0)
+    path = []
+    for r in rows:
+        r["parts"] = []
+        need(r["depth"] <= len(path))
+        need(r["depth"] > 0 or not path)
+        del path[r["depth"]:]
+        if path:
+            path[-1]["parts"].append(r)
+        path.append(r)
+    return rows[0]
+
+
+def check_tree(r):
+    check_row(r)
+    kind = r["kind"]
+    own = "field alias" if kind == "field" else "alias"
+    parts = list(r["parts"])
+    if kind in DEFINITIONS or kind == "field":
+        while parts and parts[0]["kind"] == own:
+            parts.pop(0)
+    kinds = [p["kind"] for p in parts]
+    if kind == "record":
+        need(all(k == "field" for k in kinds))
+        taken = set()
+        for f in parts:
+            need(f["text"] not in taken)
+            taken.add(f["text"])
+            taken |= {a["text"] for a in f["parts"] if a["kind"] == "field alias"}
+    elif kind == "enum":
+        need(all(k == "symbol" for k in kinds))
+        need(len({p["text"] for p in parts}) == len(parts))
+    elif kind == "union":
+        need(all(k in SCHEMAS and k != "union" for k in kinds))
+        seen = [p["text"] if p["kind"] in DEFINITIONS | {"reference"} else p["kind"] for p in parts]
+        need(len(set(seen)) == len(seen))
+    elif kind in ("array", "map", "field"):
+        need(len(kinds) == 1 and kinds[0] in SCHEMAS)
+    else:
+        need(not parts)
+    for p in r["parts"]:
+        check_tree(p)
+
+
+def well_formed(mem):
+    try:
+        ds = declarations(mem)
+        for rows in ds:
+            root = tree(rows)
+            need(root["kind"] in SCHEMAS)
+            check_tree(root)
+        names = set()
+        for r in (r for rows in ds for r in rows):
+            if r["kind"] in DEFINITIONS:
+                need(r["text"] not in names)
+                names.add(r["text"])
+            elif r["kind"] == "reference":
+                need(r["text"] in names)
+        return True
+    except Bad:
+        return False
+
+
+# ---- writing memory
+
+def row(kind, depth, text=b"", position=0, size=0, note=0, precision=0, scale=0):
+    return kind, depth, text, position, size, note, precision, scale
+
+
+def encode(ds):
+    mem = bytearray(LENGTH)
+    struct.pack_into("<H", mem, 0, len(ds))
+    i = end = 0
+    for k, rows in enumerate(ds):
+        if k < 32:
+            struct.pack_into("<H", mem, 2 + 2 * k, len(rows))
+        for kind, depth, text, position, size, note, precision, scale in rows:
+            struct.pack_into("<BBHHHHQQQ", mem, ROWS + ROW * i, NUMBERS[kind], note, depth, position, len(text), end, size, precision, scale)
+            mem[STRINGS + end:STRINGS + end + len(text)] = text
+            i, end = i + 1, end + len(text)
+    return mem
+
+
+# ---- the sets
+
+R = row
+FIRST = [
+    R("record", 0, b"a.R", 26), R("alias", 1, b"a.Q", 40),
+    R("field", 1, b"x", 60), R("field alias", 2, b"v", 70), R("int", 2, b"", 80),
+    R("field", 1, b"y", 90), R("union", 2, b"", 100), R("null", 3, b"", 101), R("long", 3, b"", 108), R("float", 3, b"", 115),
+    R("reference", 3, b"a.R", 122),
+    R("field", 1, b"w", 130), R("array", 2, b"", 140), R("map", 3, b"", 150), R("boolean", 4, b"", 160)]
+SECOND = [
+    R("enum", 0, b"b.E", 32767), R("alias", 1, b"D", 20), R("symbol", 1, b"A", 30), R("symbol", 1, b"C", 33), R("symbol", 1, b"B", 36)]
+THIRD = [R("fixed", 0, b"a.S", 9, size=16, note=1, precision=9, scale=8), R("alias", 1, b"a.R", 30)]
+FOURTH = [
+    R("union", 0, b"", 0), R("double", 1, b"", 1), R("bytes", 1, b"", 9, note=1, precision=1, scale=1), R("string", 1, b"", 30),
+    R("reference", 1, b"b.E", 40), R("reference", 1, b"a.S", 48), R("enum", 1, b"N", 56, note=0)]
+FIFTH = [R("fixed", 0, b"F", 5, size=2 ** 64 - 1, note=6)]
+SIXTH = [R("int", 0, b"", 0)]
+GOOD = [FIRST, SECOND, THIRD, FOURTH, FIFTH, SIXTH]
+
+REC = R("record", 0, b"R")
+INT1, INT2 = R("int", 1), R("int", 2)
+
+
+def fld(name, depth=1):
+    return R("field", depth, name)
+
+
+CASES = [
+    ("the good set", GOOD), ("the empty set", []), ("a declaration without rows", [[]]), ("a primitive", [[R("string", 0)]]),
+    # the tree
+    ("a first row at depth 1", [[R("int", 1)]]), ("two rows at depth 0", [[R("int", 0), R("int", 0)]]),
+    ("a field on top", [[R("field", 0, b"x"), INT1]]), ("an alias on top", [[R("alias", 0, b"x")]]), ("a symbol on top", [[R("symbol", 0, b"x")]]),
+    ("a row two deeper", [[REC, R("field", 2, b"x"), R("int", 3)]]), ("a part under a primitive", [[R("int", 0), R("null", 1)]]),
+    ("a part under a reference", [[REC, fld(b"x"), R("reference", 2, b"R"), R("null", 3)]]), ("a part under an alias", [[REC, R("alias", 1, b"B"), R("null", 2)]]),
+    ("a part under a symbol", [[R("enum", 0, b"E"), R("symbol", 1, b"A"), R("null", 2)]]), ("a part under a field alias", [[REC, fld(b"x"), R("field alias", 2, b"y"), R("int", 3)]]),
+    ("a field without a type", [[REC, fld(b"x")]]), ("a field with an alias and no type", [[REC, fld(b"x"), R("field alias", 2, b"y")]]),
+    ("a field of two types", [[REC, fld(b"x"), INT2, R("null", 2)]]), ("a field alias behind the type", [[REC, fld(b"x"), INT2, R("field alias", 2, b"y")]]),
+    ("a definition's alias under a field", [[REC, fld(b"x"), R("alias", 2, b"y"), INT2]]), ("a field's alias under a record", [[REC, R("field alias", 1, b"y")]]),
+    ("a record without fields", [[REC]]), ("a record with a symbol", [[REC, R("symbol", 1, b"A")]]), ("a record with a schema", [[REC, INT1]]),
+    ("an alias behind a field", [[REC, fld(b"x"), INT2, R("alias", 1, b"B")]]), ("an enum without symbols", [[R("enum", 0, b"E")]]),
+    ("an enum with a field", [[R("enum", 0, b"E"), fld(b"x"), INT2]]), ("an alias behind a symbol", [[R("enum", 0, b"E"), R("symbol", 1, b"A"), R("alias", 1, b"B")]]),
+    ("a fixed with a part", [[R("fixed", 0, b"F"), INT1]]), ("a fixed with aliases", [[R("fixed", 0, b"F"), R("alias", 1, b"G"), R("alias", 1, b"G")]]),
+    ("an array without a part", [[R("array", 0)]]), ("an array of two", [[R("array", 0), INT1, R("null", 1)]]), ("an array of a field", [[R("array", 0), fld(b"x"), INT2]]),
+    ("a map without a part", [[R("map", 0)]]), ("a map of one", [[R("map", 0), INT1]]), ("a map with an alias", [[R("map", 0), R("alias", 1, b"B"), INT1]]),
+    ("an empty union", [[R("union", 0)]]), ("a union of one", [[R("union", 0), INT1]]), ("a union in a union", [[R("union", 0), R("union", 1)]]),
+    ("a union in an array in a union", [[R("union", 0), R("array", 1), R("union", 2), R("int", 3)]]), ("a union with a symbol", [[R("union", 0), R("symbol", 1, b"A")]]),
+    # strings
+    ("a name with a leading dot", [[R("record", 0, b".R")]]), ("a name with two dots", [[R("record", 0, b"a..R")]]), ("an empty name", [[R("record", 0)]]),
+    ("a name that starts with a digit", [[R("record", 0, b"a.1R")]]), ("a reserved name", [[R("enum", 0, b"a.string")]]), ("a reserved name as namespace", [[R("enum", 0, b"string.a")]]),
+    ("a reserved alias", [[R("fixed", 0, b"F"), R("alias", 1, b"x.record")]]), ("a reserved field, symbol and field alias", [[REC, fld(b"int"), R("field alias", 2, b"enum"), R("enum", 2, b"E"), R("symbol", 3, b"null")]]),
+    ("a field with a dot", [[REC, fld(b"a.b"), INT2]]), ("a symbol with a dot", [[R("enum", 0, b"E"), R("symbol", 1, b"a.b")]]), ("a field alias with a dot", [[REC, fld(b"x"), R("field alias", 2, b"a.b"), INT2]]),
+    ("a name of 255 bytes", [[R("record", 0, b"n" * 255)]]), ("a name of 256 bytes", [[R("record", 0, b"n" * 256)]]), ("a field of 255 bytes", [[REC, fld(b"n" * 255), INT2]]),
+    ("a field of 256 bytes", [[REC, fld(b"n" * 256), INT2]]), ("a primitive with a string", [[R("int", 0, b"x")]]), ("an array with a string", [[R("array", 0, b"x"), INT1]]),
+    # numbers
+    ("position 32,767", [[R("int", 0, b"", 32767)]]), ("position 32,768", [[R("int", 0, b"", 32768)]]), ("a size on a record", [[R("record", 0, b"R", size=1)]]),
+    ("a fixed of size 0", [[R("fixed", 0, b"F")]]), ("note 6", [[R("bytes", 0, note=6)]]), ("note 7", [[R("bytes", 0, note=7)]]), ("a note on a string", [[R("string", 0, note=2)]]),
+    ("note 1 with precision 0", [[R("bytes", 0, note=1)]]), ("note 1 with scale over precision", [[R("bytes", 0, note=1, precision=4, scale=5)]]),
+    ("note 1 with scale as precision", [[R("bytes", 0, note=1, precision=2 ** 64 - 1, scale=2 ** 64 - 1)]]), ("note 2 with a precision", [[R("fixed", 0, b"F", note=2, precision=4)]]),
+    ("note 0 with a precision", [[R("fixed", 0, b"F", precision=4)]]), ("note 0 with a scale", [[R("bytes", 0, scale=4)]]),
+    # 11
+    ("two fields of one name", [[REC, fld(b"x"), INT2, fld(b"x"), INT2]]), ("a field with an earlier alias", [[REC, fld(b"x"), R("field alias", 2, b"y"), INT2, fld(b"y"), INT2]]),
+    ("an alias with an earlier name", [[REC, fld(b"x"), INT2, fld(b"y"), R("field alias", 2, b"x"), INT2]]), ("a field with its own alias", [[REC, fld(b"x"), R("field alias", 2, b"x"), INT2]]),
+    ("two aliases alike", [[REC, fld(b"x"), R("field alias", 2, b"z"), INT2, fld(b"y"), R("field alias", 2, b"z"), INT2]]),
+    ("a field named as one of an inner record", [[REC, fld(b"x"), R("record", 2, b"S"), fld(b"y", 3), R("int", 4), fld(b"y"), INT2]]),
+    ("a field named as the alias of an inner field", [[REC, fld(b"x"), R("record", 2, b"S"), fld(b"y", 3), R("field alias", 4, b"z"), R("int", 4), fld(b"z"), INT2]]),
+    # 14
+    ("two symbols alike", [[R("enum", 0, b"E"), R("symbol", 1, b"A"), R("symbol", 1, b"B"), R("symbol", 1, b"A")]]), ("a symbol like its enum", [[R("enum", 0, b"E"), R("alias", 1, b"E"), R("symbol", 1, b"E")]]),
+    # 19
+    ("two of one kind", [[R("union", 0), INT1, R("null", 1), INT1]]), ("two arrays", [[R("union", 0), R("array", 1), INT2, R("array", 1), R("null", 2)]]),
+    ("a decimal beside bytes", [[R("union", 0), R("bytes", 1, note=1, precision=3), R("bytes", 1)]]), ("two fixeds of two names", [[R("union", 0), R("fixed", 1, b"F"), R("fixed", 1, b"G")]]),
+    ("a definition and a reference to it", [[R("union", 0), R("fixed", 1, b"F"), R("reference", 1, b"F")]]), ("two references alike", [[R("fixed", 0, b"F")], [R("union", 0), R("reference", 1, b"F"), R("reference", 1, b"F")]]),
+    ("two references", [[R("fixed", 0, b"F")], [R("enum", 0, b"E")], [R("union", 0), R("reference", 1, b"F"), R("reference", 1, b"E")]]),
+    # 25 and 26
+    ("a name defined twice", [[REC], [R("enum", 0, b"R")]]), ("a name defined twice in one declaration", [[REC, fld(b"x"), R("record", 2, b"R")]]), ("an alias like an earlier name", [[REC], [R("enum", 0, b"E"), R("alias", 1, b"R")]]),
+    ("a name like an earlier alias", [[R("record", 0, b"R"), R("alias", 1, b"E")], [R("enum", 0, b"E")]]), ("a record that refers to itself", [[REC, fld(b"x"), R("reference", 2, b"R")]]),
+    ("a reference to an earlier declaration", [[REC], [R("array", 0), R("reference", 1, b"R")]]), ("a reference to a later declaration", [[R("array", 0), R("reference", 1, b"R")], [REC]]),
+    ("a reference to an earlier field's type", [[REC, fld(b"x"), R("enum", 2, b"E"), fld(b"y"), R("reference", 2, b"E")]]), ("a reference to a later field's type", [[REC, fld(b"x"), R("reference", 2, b"E"), fld(b"y"), R("enum", 2, b"E")]]),
+    ("a reference to an alias", [[R("record", 0, b"R"), R("alias", 1, b"Q")], [R("array", 0), R("reference", 1, b"Q")]]), ("a reference to the last part", [[R("record", 0, b"a.R")], [R("array", 0), R("reference", 1, b"R")]]),
+    # limits
+    ("32 declarations", [[R("int", 0)]] * 32), ("33 declarations", [[R("int", 0)]] * 33),
+]
+
+
+def store(mem):
+    """Store commands for the bytes that are not 0."""
+    out, at = [], 0
+    while at < len(mem):
+        if mem[at] == 0:
+            at += 1
+            continue
+        end = at
+        while end < len(mem) and end - at < 64 and any(mem[end:end + 4]):
+            end += 1
+        out.append("s%04x%s" % (at, bytes(mem[at:end]).hex()))
+        at = end
+    return out
+
+
+def main(which):
+    commands, printed = [], []
+    line = []
+    for k, (_, ds) in enumerate(CASES):
+        mem = encode(ds)
+        commands += ["c"] + store(mem) + ["j%04x" % LENGTH]
+        line.append("%d" % well_formed(mem))
+        if k % 32 == 31 or k == len(CASES) - 1:
+            commands.append("n")
+            printed.append("".join(line))
+            line = []
+    # other lengths
+    commands += ["c", "j0000", "j%04x" % (LENGTH - 1), "j%04x" % (LENGTH + 1), "j%04x" % LENGTH, "n"]
+    printed.append("".join("%d" % well_formed(bytearray(n)) for n in (0, LENGTH - 1, LENGTH + 1, LENGTH)))
+    # the good set, each byte damaged
+    mem = encode(GOOD)
+    commands += store(mem)
+    rows = sum(len(d) for d in GOOD)
+    text = sum(len(r[2]) for d in GOOD for r in d)
+    ranges = [(0, 66)] + [(ROWS + ROW * i, ROW) for i in range(rows + 1)] + [(STRINGS - 4, text + 8), (LENGTH - 4, 4)]
+    for at, n in ranges:
+        commands.append("d%04x%04x" % (at, n))
+        out = []
+        for i in range(at, at + n):
+            old = mem[i]
+            for new in ((old + 1) % 256, (old - 1) % 256, old ^ 128):
+                mem[i] = new
+                out.append("%d" % well_formed(mem))
+            mem[i] = old
+        printed.append("".join(out))
+    lines = commands if which == "stdin" else printed
+    sys.stdout.write("\n".join(lines) + "\n")
+
+
+if __name__ == "__main__":
+    if sys.argv[1] == "cases":
+        for name, ds in CASES:
+            print(int(well_formed(encode(ds))), name)
+    else:
+        main(sys.argv[1])
