@@ -24,10 +24,8 @@ use Rattle.form.specs.Spots.{onSpot, asText}
 use Rattle.form.specs.Names.{notAName, kept, unreserved, simpleCheck, fullAt, referenceCheck, aliasCheck, namespaceOf, definedAt, namespaceCheck, definitionCheck}
 pub use Rattle.form.proofs.Sequels.{must-holds, must-fails, must-fine, then-fine, then-bad, then-next}
 pub use Rattle.form.proofs.Places.{visit-less}
-pub use Rattle.form.proofs.Shapes.{object-own}
+pub use Rattle.form.proofs.Shapes.{object-own, found-form, found-members}
 pub use Rattle.form.proofs.Written.{Copied, copied, Answers, named-kept, named-wrong, kept-copied, full-fixed}
-pub use Rattle.form.proofs.Earlier.{before-end, Passed, passed-start, passed-next, passed-before}
-pub use Rattle.form.proofs.Heads.{found-form, found-members}
 
 -- ---- names that passed their checks
 

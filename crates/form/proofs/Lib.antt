@@ -3,7 +3,4 @@ mod Places
 mod Shapes
 mod Decimal
 mod Written
-mod Earlier
-mod Listed
-mod Heads
 pub mod Laws

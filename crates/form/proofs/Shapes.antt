@@ -22,7 +22,7 @@ use Rattle.form.specs.declared.forms.Form.the-variants as form
 use Rattle.form.specs.declared.forms.Found.{Found}
 use Rattle.form.specs.Checks.{fault}
 use Rattle.form.specs.Spots.{onSpot, isText, isObject, isArray}
-use Rattle.form.specs.Forms.{objectForm, formBy, formWithin, objectOf, noMembers, found, foundOf}
+use Rattle.form.specs.Forms.{objectForm, formBy, formWithin, formOf, objectOf, noMembers, found, foundOf}
 
 object-is : (s : Shape) → isObject s ≡ true → s ≡ Object
 object-is Text e = never e
@@ -123,3 +123,13 @@ module _ (t : List ℕ) (n p : ℕ) {x : Form} (inv : formWithin n t p ≡ x) wh
 
         pub find-nested : d ≡ false → formWithin (n - 1) t q ≡ x
         find-nested j = rw (← i, j) at (typed e)
+
+-- ---- a form that was found, and the members with it
+
+module _ (t : List ℕ) (p : ℕ) {x : Found} (e : x ≡ foundOf t (formOf t p)) where
+  pub found-form : {f : Form} → x .form ≡ f → formOf t p ≡ f
+  unfolding foundOf
+  found-form g = sym (ap (λ (y : Found). y .form) e) ∙ g
+
+  pub found-members : {f : Form} → x .form ≡ f → x .members ≡ foundOf t f .members
+  found-members g = ap (λ (y : Found). y .members) (e ∙ ap (foundOf t) (found-form g))

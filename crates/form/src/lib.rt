@@ -1,17 +1,12 @@
-// What a declaration's text says at a place, and the checks that need no row: forms, names, notes, and the rules 11, 13 to 16 and 19.
+// What a declaration's text says at a place: forms, decimals' notes, and the names with their checks 7, 8, 9.
 pub mod check;
-pub mod fields;
 pub mod forms;
 pub mod names;
 pub mod note;
 pub mod spots;
-pub mod standing;
-pub mod symbols;
-pub mod unions;
 
 pub use check::Check;
 pub use check::must;
-pub use fields::field_names;
 pub use forms::Form;
 pub use forms::Found;
 pub use forms::find;
@@ -29,8 +24,3 @@ pub use spots::as_text;
 pub use spots::first_alias;
 pub use spots::is_object;
 pub use spots::is_text;
-pub use standing::Standing;
-pub use symbols::default_check;
-pub use symbols::symbols_check;
-pub use unions::new_kind;
-pub use unions::new_name;

@@ -3,7 +3,7 @@
 ghost use mathlib.Core.Path.{_≡_};
 ghost use Rattle.json.specs.Json.{isSpace, isDigit, isHex, isD, isE, isSign, isHigh, isLow, isShort, inside};
 
-pub fn is_space(b: u8) -> bool
+pub(crate) fn is_space(b: u8) -> bool
     ensures { λ r. ⌜ r ≡ isSpace b ⌝ }
 {
     if b == 32 {
@@ -18,19 +18,19 @@ pub fn is_space(b: u8) -> bool
 }
 
 // Is b from lo to hi?
-pub fn inside(lo: u8, hi: u8, b: u8) -> bool
+pub(crate) fn inside(lo: u8, hi: u8, b: u8) -> bool
     ensures { λ r. ⌜ r ≡ inside lo hi b ⌝ }
 {
     if b < lo { false } else { b <= hi }
 }
 
-pub fn is_digit(b: u8) -> bool
+pub(crate) fn is_digit(b: u8) -> bool
     ensures { λ r. ⌜ r ≡ isDigit b ⌝ }
 {
     inside(48, 57, b)
 }
 
-pub fn is_hex(b: u8) -> bool
+pub(crate) fn is_hex(b: u8) -> bool
     ensures { λ r. ⌜ r ≡ isHex b ⌝ }
 {
     if inside(48, 57, b) {
@@ -42,26 +42,26 @@ pub fn is_hex(b: u8) -> bool
     }
 }
 
-pub fn is_d(b: u8) -> bool
+pub(crate) fn is_d(b: u8) -> bool
     ensures { λ r. ⌜ r ≡ isD b ⌝ }
 {
     if b == b'd' { true } else { b == b'D' }
 }
 
-pub fn is_e(b: u8) -> bool
+pub(crate) fn is_e(b: u8) -> bool
     ensures { λ r. ⌜ r ≡ isE b ⌝ }
 {
     if b == b'e' { true } else { b == b'E' }
 }
 
-pub fn is_sign(b: u8) -> bool
+pub(crate) fn is_sign(b: u8) -> bool
     ensures { λ r. ⌜ r ≡ isSign b ⌝ }
 {
     if b == b'+' { true } else { b == b'-' }
 }
 
 // The second digit of a high surrogate, and of a low one.
-pub fn is_high(b: u8) -> bool
+pub(crate) fn is_high(b: u8) -> bool
     ensures { λ r. ⌜ r ≡ isHigh b ⌝ }
 {
     if inside(56, 57, b) {
@@ -73,7 +73,7 @@ pub fn is_high(b: u8) -> bool
     }
 }
 
-pub fn is_low(b: u8) -> bool
+pub(crate) fn is_low(b: u8) -> bool
     ensures { λ r. ⌜ r ≡ isLow b ⌝ }
 {
     if inside(67, 70, b) {
@@ -83,7 +83,7 @@ pub fn is_low(b: u8) -> bool
     }
 }
 
-pub fn is_short(b: u8) -> bool
+pub(crate) fn is_short(b: u8) -> bool
     ensures { λ r. ⌜ r ≡ isShort b ⌝ }
 {
     match b {

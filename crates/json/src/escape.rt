@@ -15,7 +15,7 @@ ghost use Rattle.json.specs.Json.{isHex, str, plain, esc, h1, h2d, g5, g
 ghost use Rattle.json.specs.Meets.{Reads, oneOf, thenOne};
 
 // One hexadecimal digit.
-pub fn hex(text: &[u8], at: usize) -> Step
+pub(crate) fn hex(text: &[u8], at: usize) -> Step
     ensures { λ r. ⌜ r ≡ oneOf isHex (now (text .entry)) at ⌝ }
 {
     let b = byte_at(text, at);
@@ -23,7 +23,7 @@ pub fn hex(text: &[u8], at: usize) -> Step
     take(text, at, ok)
 }
 
-pub fn two_hex(text: &[u8], at: usize) -> Step
+pub(crate) fn two_hex(text: &[u8], at: usize) -> Step
     ensures { λ r. ⌜ r ≡ thenOne isHex (now (text .entry)) (oneOf isHex (now (text .entry)) at) ⌝ }
 {
     match hex(text, at) {
@@ -33,7 +33,7 @@ pub fn two_hex(text: &[u8], at: usize) -> Step
 }
 
 // The low half of a pair of surrogates, after the high one.
-pub fn low_half(text: &[u8], at: usize) -> Step
+pub(crate) fn low_half(text: &[u8], at: usize) -> Step
     ensures { λ r. ⌜ ((w : Place) → Reads (now (text .entry)) at (str w g5) (str w plain) r) ⌝ }
 {
     match byte(text, at, 92) {
@@ -45,7 +45,7 @@ pub fn low_half(text: &[u8], at: usize) -> Step
     }
 }
 
-pub fn low_digits(text: &[u8], at: usize) -> Step
+pub(crate) fn low_digits(text: &[u8], at: usize) -> Step
     ensures { λ r. ⌜ ((w : Place) → Reads (now (text .entry)) at (str w g7) (str w plain) r) ⌝ }
 {
     if !is_d(byte_at(text, at)) {
@@ -59,7 +59,7 @@ pub fn low_digits(text: &[u8], at: usize) -> Step
 }
 
 // After the first digit d of an escape.
-pub fn after_d(text: &[u8], at: usize) -> Step
+pub(crate) fn after_d(text: &[u8], at: usize) -> Step
     ensures { λ r. ⌜ ((w : Place) → Reads (now (text .entry)) at (str w h2d) (str w plain) r) ⌝ }
 {
     let b = byte_at(text, at);
@@ -76,7 +76,7 @@ pub fn after_d(text: &[u8], at: usize) -> Step
 }
 
 // The four digits of an escape.
-pub fn four_hex(text: &[u8], at: usize) -> Step
+pub(crate) fn four_hex(text: &[u8], at: usize) -> Step
     ensures { λ r. ⌜ ((w : Place) → Reads (now (text .entry)) at (str w h1) (str w plain) r) ⌝ }
 {
     if is_d(byte_at(text, at)) {
@@ -88,7 +88,7 @@ pub fn four_hex(text: &[u8], at: usize) -> Step
     }
 }
 
-pub fn escape(text: &[u8], at: usize) -> Step
+pub(crate) fn escape(text: &[u8], at: usize) -> Step
     ensures { λ r. ⌜ ((w : Place) → Reads (now (text .entry)) at (str w esc) (str w plain) r) ⌝ }
 {
     let b = byte_at(text, at);

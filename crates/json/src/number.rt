@@ -9,7 +9,7 @@ ghost use Rattle.json.specs.Json.{isDigit, done, num, e, minus};
 ghost use Rattle.json.specs.Meets.{Passes, Reads, Digits, Ends, powered, pointed};
 
 // Past the digits.
-pub fn digits(text: &[u8], from: usize) -> usize
+pub(crate) fn digits(text: &[u8], from: usize) -> usize
     ensures { λ r. ⌜ Passes isDigit (now (text .entry)) from r ⌝ }
 {
     let mut at = from;
@@ -23,7 +23,7 @@ pub fn digits(text: &[u8], from: usize) -> usize
 }
 
 // One digit or more.
-pub fn some_digits(text: &[u8], from: usize) -> Step
+pub(crate) fn some_digits(text: &[u8], from: usize) -> Step
     ensures { λ r. ⌜ Digits (now (text .entry)) from r ⌝ }
 {
     match within(text, from, 48, 57) {
@@ -33,7 +33,7 @@ pub fn some_digits(text: &[u8], from: usize) -> Step
 }
 
 // An exponent, after its e.
-pub fn power(text: &[u8], at: usize) -> Step
+pub(crate) fn power(text: &[u8], at: usize) -> Step
     ensures { λ r. ⌜ Reads (now (text .entry)) at (num e) done r ⌝ }
 {
     if is_sign(byte_at(text, at)) {
@@ -44,7 +44,7 @@ pub fn power(text: &[u8], at: usize) -> Step
 }
 
 // An exponent, which may be missing.
-pub fn exponent(text: &[u8], at: usize) -> Step
+pub(crate) fn exponent(text: &[u8], at: usize) -> Step
     ensures { λ r. ⌜ Ends powered (now (text .entry)) at r ⌝ }
 {
     if is_e(byte_at(text, at)) {
@@ -55,7 +55,7 @@ pub fn exponent(text: &[u8], at: usize) -> Step
 }
 
 // A fraction and an exponent, each of which may be missing.
-pub fn fraction(text: &[u8], at: usize) -> Step
+pub(crate) fn fraction(text: &[u8], at: usize) -> Step
     ensures { λ r. ⌜ Ends pointed (now (text .entry)) at r ⌝ }
 {
     if byte_at(text, at) == b'.' {
@@ -69,7 +69,7 @@ pub fn fraction(text: &[u8], at: usize) -> Step
 }
 
 // A number from its first digit.
-pub fn number(text: &[u8], at: usize) -> Step
+pub(crate) fn number(text: &[u8], at: usize) -> Step
     ensures { λ r. ⌜ Reads (now (text .entry)) at (num minus) done r ⌝ }
 {
     if byte_at(text, at) == b'0' {

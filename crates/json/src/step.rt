@@ -24,7 +24,7 @@ pub enum More {
     Stop(Fault),
 }
 
-pub fn bad(at: usize) -> Step
+pub(crate) fn bad(at: usize) -> Step
     ensures { λ r. ⌜ r ≡ Step.Fails (record { why = Why.NotJson; at = at }) ⌝ }
 {
     Step::Fails(Fault {
@@ -34,7 +34,7 @@ pub fn bad(at: usize) -> Step
 }
 
 // Past the white space.
-pub fn skip(text: &[u8], from: usize) -> usize
+pub(crate) fn skip(text: &[u8], from: usize) -> usize
     ensures { λ r. ⌜ Passes isSpace (now (text .entry)) from r ⌝ }
 {
     let mut at = from;
@@ -48,7 +48,7 @@ pub fn skip(text: &[u8], from: usize) -> usize
 }
 
 // Past the byte, if it is what must come.
-pub fn take(text: &[u8], at: usize, ok: bool) -> Step
+pub(crate) fn take(text: &[u8], at: usize, ok: bool) -> Step
     requires { ⌜ (ok ≡ true → at < length (now text)) ⌝ }
     ensures { λ r. ⌜ r ≡ took ok at ⌝ }
 {
@@ -56,7 +56,7 @@ pub fn take(text: &[u8], at: usize, ok: bool) -> Step
 }
 
 // One byte from lo to hi.
-pub fn within(text: &[u8], at: usize, lo: u8, hi: u8) -> Step
+pub(crate) fn within(text: &[u8], at: usize, lo: u8, hi: u8) -> Step
     requires { ⌜ 0 < lo ⌝ }
     ensures { λ r. ⌜ r ≡ oneOf (inside lo hi) (now (text .entry)) at ⌝ }
 {
@@ -66,7 +66,7 @@ pub fn within(text: &[u8], at: usize, lo: u8, hi: u8) -> Step
 }
 
 // The one byte x.
-pub fn byte(text: &[u8], at: usize, x: u8) -> Step
+pub(crate) fn byte(text: &[u8], at: usize, x: u8) -> Step
     requires { ⌜ 0 < x ⌝ }
     ensures { λ r. ⌜ r ≡ oneOf (isByte x) (now (text .entry)) at ⌝ }
 {
@@ -75,7 +75,7 @@ pub fn byte(text: &[u8], at: usize, x: u8) -> Step
 }
 
 // The rest of a literal, which is not empty.
-pub fn literal(text: &[u8], from: usize, word: &[u8]) -> Step
+pub(crate) fn literal(text: &[u8], from: usize, word: &[u8]) -> Step
     requires { ⌜ 0 < length (now word) ⌝ }
     ensures { λ r. ⌜ Reads (now (text .entry)) from (spelt (now (word .entry))) done r ⌝ }
 {

@@ -10,7 +10,7 @@ ghost use Rattle.json.specs.Json.{str, plain, Place, closed};
 ghost use Rattle.json.specs.Meets.{Reads};
 
 // One character or escape of a string, whose first byte is b, and no quote.
-pub fn piece(text: &[u8], at: usize, b: u8) -> Step
+pub(crate) fn piece(text: &[u8], at: usize, b: u8) -> Step
     requires { ⌜ at < length (now text) ⌝ ∗ (⌜ b ≡ getD (now text) at 0 ⌝ ∗ ⌜ (b ≡ 34 → ⊥) ⌝) }
     ensures { λ r. ⌜ ((w : Place) → Reads (now (text .entry)) at (str w plain) (str w plain) r) ⌝ }
 {
@@ -26,7 +26,7 @@ pub fn piece(text: &[u8], at: usize, b: u8) -> Step
 }
 
 // A string from the byte after its first quote.
-pub fn string(text: &[u8], from: usize) -> Step
+pub(crate) fn string(text: &[u8], from: usize) -> Step
     ensures { λ r. ⌜ ((w : Place) → Reads (now (text .entry)) from (str w plain) (closed w) r) ⌝ }
 {
     let mut at = from;

@@ -10,7 +10,7 @@ ghost use Rattle.json.specs.Json.{inside, Place};
 ghost use Rattle.json.specs.Meets.{Wide, oneOf, thenOne};
 
 // Two or three bytes of a character after its first.
-pub fn two_more(text: &[u8], at: usize, lo: u8, hi: u8) -> Step
+pub(crate) fn two_more(text: &[u8], at: usize, lo: u8, hi: u8) -> Step
     requires { ⌜ 0 < lo ⌝ }
     ensures { λ r. ⌜ r ≡ thenOne (inside 128 191) (now (text .entry)) (oneOf (inside lo hi) (now (text .entry)) at) ⌝ }
 {
@@ -20,7 +20,7 @@ pub fn two_more(text: &[u8], at: usize, lo: u8, hi: u8) -> Step
     }
 }
 
-pub fn three_more(text: &[u8], at: usize, lo: u8, hi: u8) -> Step
+pub(crate) fn three_more(text: &[u8], at: usize, lo: u8, hi: u8) -> Step
     requires { ⌜ 0 < lo ⌝ }
     ensures { λ r. ⌜ r ≡ thenOne (inside 128 191) (now (text .entry)) (thenOne (inside 128 191) (now (text .entry)) (oneOf (inside lo hi) (now (text .entry)) at)) ⌝ }
 {
@@ -31,7 +31,7 @@ pub fn three_more(text: &[u8], at: usize, lo: u8, hi: u8) -> Step
 }
 
 // A character of more than one byte, whose first is b.
-pub fn wide_char(text: &[u8], at: usize, b: u8) -> Step
+pub(crate) fn wide_char(text: &[u8], at: usize, b: u8) -> Step
     requires { ⌜ at < length (now text) ⌝ ∗ ⌜ b ≡ getD (now text) at 0 ⌝ }
     ensures { λ r. ⌜ ((w : Place) → Wide w (now (text .entry)) at b r) ⌝ }
 {

@@ -18,7 +18,7 @@ ghost use Rattle.json.specs.Json.{val, key, colon, square, brace, first,
 ghost use Rattle.json.specs.Meets.{Reads, ReadsIn, Brackets, Follows, Simple};
 
 // A value that is no array and no object.
-pub fn scalar(text: &[u8], at: usize, b: u8) -> Step
+pub(crate) fn scalar(text: &[u8], at: usize, b: u8) -> Step
     requires { ⌜ b ≡ getD (now text) at 0 ⌝ }
     ensures { λ r. ⌜ Simple (now (text .entry)) at b r ⌝ }
 {
@@ -40,7 +40,7 @@ pub fn scalar(text: &[u8], at: usize, b: u8) -> Step
 }
 
 // After an element or a member.
-pub fn next_item(text: &[u8], from: usize, close: u8) -> More
+pub(crate) fn next_item(text: &[u8], from: usize, close: u8) -> More
     requires { ⌜ 0 < close ⌝ }
     ensures { λ r. ⌜ Follows (now (text .entry)) from close r ⌝ }
 {
@@ -59,7 +59,7 @@ pub fn next_item(text: &[u8], from: usize, close: u8) -> More
 }
 
 // A key with its colon.
-pub fn key(text: &[u8], from: usize) -> Step
+pub(crate) fn key(text: &[u8], from: usize) -> Step
     ensures { λ r. ⌜ Reads (now (text .entry)) from key val r ⌝ }
 {
     let at = skip(text, from);
@@ -72,7 +72,7 @@ pub fn key(text: &[u8], from: usize) -> Step
     }
 }
 
-pub fn colon(text: &[u8], from: usize) -> Step
+pub(crate) fn colon(text: &[u8], from: usize) -> Step
     ensures { λ r. ⌜ Reads (now (text .entry)) from colon val r ⌝ }
 {
     let at = skip(text, from);
@@ -80,7 +80,7 @@ pub fn colon(text: &[u8], from: usize) -> Step
 }
 
 // A value, in brackets of which `left` more may be opened.
-pub fn value(text: &[u8], from: usize, left: usize) -> Step
+pub(crate) fn value(text: &[u8], from: usize, left: usize) -> Step
     ensures { λ r. ⌜ ReadsIn (now (text .entry)) from left val r ⌝ }
 {
     let at = skip(text, from);
@@ -107,7 +107,7 @@ pub fn value(text: &[u8], from: usize, left: usize) -> Step
 }
 
 // An array, after its bracket.
-pub fn array(text: &[u8], from: usize, left: usize) -> Step
+pub(crate) fn array(text: &[u8], from: usize, left: usize) -> Step
     ensures { λ r. ⌜ Brackets (now (text .entry)) from left square first r ⌝ }
 {
     let start = skip(text, from);
@@ -131,7 +131,7 @@ pub fn array(text: &[u8], from: usize, left: usize) -> Step
 }
 
 // An object, after its brace.
-pub fn object(text: &[u8], from: usize, left: usize) -> Step
+pub(crate) fn object(text: &[u8], from: usize, left: usize) -> Step
     ensures { λ r. ⌜ Brackets (now (text .entry)) from left brace key0 r ⌝ }
 {
     let start = skip(text, from);

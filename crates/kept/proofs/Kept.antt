@@ -24,7 +24,7 @@ use Rattle.form.specs.Checks.{fault}
 use Rattle.answer.specs.declared.refusal.Why.the-variants.{TypeMissing, ItemsMissing, ValuesMissing}
 use Rattle.form.specs.Spots.{onSpot, isText}
 use Rattle.form.specs.Forms.{objectForm, formBy, formWithin, formOf}
-use Rattle.form.specs.Unions.{headOf}
+use Rattle.rules.specs.Unions.{headOf}
 use Rattle.schema.specs.Out.{Out, read}
 use Rattle.schema.specs.Schema.{Around, within, schemaBy, schemaOf, rowsOf}
 use Rattle.resolve.specs.Rules.{goodNumbers, isDeclaration}

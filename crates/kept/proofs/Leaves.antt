@@ -16,7 +16,7 @@ use Rattle.form.specs.declared.check.Check.the-variants.{Fine}
 use Rattle.form.specs.Checks.{fault, must, _then_}
 use Rattle.form.specs.Names.{simpleCheck, fullAt, aliasCheck}
 use Rattle.form.specs.Notes.{noted}
-use Rattle.form.specs.Symbols.{symbolsNew}
+use Rattle.rules.specs.Symbols.{symbolsNew}
 use Rattle.answer.specs.declared.refusal.Why.the-variants.{SymbolTwice}
 use Rattle.schema.specs.Out.{read, each}
 use Rattle.schema.specs.Schema.{rowWith, row, aliasRows, fieldAliasRows, symbolRows}

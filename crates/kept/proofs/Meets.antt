@@ -15,7 +15,7 @@ use Rattle.row.specs.Kinds.{kindNumber}
 use Rattle.row.specs.Rows.{Row}
 use Rattle.row.specs.declared.kind.Kind.{Kind}
 use Rattle.row.specs.declared.kind.Kind.the-variants.{Union, Field, Symbol, Alias, FieldAlias}
-use Rattle.form.specs.Unions.{Head, unnamed, called, clash as clashes, isUnion}
+use Rattle.rules.specs.Unions.{Head, unnamed, called, clash as clashes, isUnion}
 use Rattle.resolve.specs.Kinds.{isKind, isDefinition, isNamed, isSchema, isPrimitive}
 use Rattle.resolve.specs.Rules.{isAt, isFieldName, takesName, sameSymbol, sameSchema, sameMember}
 use Rattle.kept.proofs.Lists.{fails}

@@ -17,10 +17,10 @@ use Rattle.view.specs.Elements.{elements}
 use Rattle.view.proofs.Laws.{All as Each, Ascending, elements-ascend, end-ahead}
 use Rattle.form.specs.declared.check.Check.the-variants.{Fine}
 use Rattle.form.specs.declared.forms.Form.{Form}
-use Rattle.form.specs.declared.standing.Standing.the-variants.{MemberOf}
+use Rattle.rules.specs.declared.standing.Standing.the-variants.{MemberOf}
 use Rattle.form.specs.Forms.{formOf}
 use Rattle.form.specs.Notes.{noted}
-use Rattle.form.specs.Unions.{Head, unnamed, clash as clashes, headOf, before, isNew, isUnion, unionCheck}
+use Rattle.rules.specs.Unions.{Head, unnamed, clash as clashes, headOf, before, isNew, isUnion, unionCheck}
 use Rattle.schema.specs.Out.{Out, read, each}
 use Rattle.schema.specs.Schema.{rowWith, Around, asMember, unionRows}
 use Rattle.resolve.specs.Kinds.{isKind, isPrimitive, isDefinition, isNamed, isSchema, hasOne, isPartOf}

@@ -24,9 +24,9 @@ use Rattle.form.specs.Checks.{fault, must, _then_, eachOf}
 use Rattle.form.specs.Spots.{onSpot, isText, asText, asArray, aliasesIn, fieldsIn}
 use Rattle.form.specs.Names.{simpleCheck}
 use Rattle.form.specs.Notes.{noted, noteOf}
-use Rattle.form.specs.Fields.{fieldNameAt, fieldName, takenBy, fieldNamesCheck}
-use Rattle.form.specs.Symbols.{symbolsNew, symbolsCheck, defaultCheck}
-use Rattle.form.specs.Unions.{definitionHead, headOf}
+use Rattle.rules.specs.Fields.{fieldNameAt, fieldName, takenBy, fieldNamesCheck}
+use Rattle.rules.specs.Symbols.{symbolsNew, symbolsCheck, defaultCheck}
+use Rattle.rules.specs.Unions.{definitionHead, headOf}
 use Rattle.schema.specs.Out.{Out, read, after, no as fail, each}
 use Rattle.schema.specs.Schema.{rowWith, row, Around, within, fieldAliasRows, fieldRows, fieldsRows, recordRows, symbolRows, enumRows, fixedRows}
 use Rattle.resolve.specs.Kinds.{isKind, isDefinition, isPartOf, partsFit}

@@ -26,7 +26,7 @@ use Rattle.form.specs.Spots.{onSpot, asText, aliasesIn}
 use Rattle.form.specs.Names.{fullAt, referenceCheck, definedAt, definitionCheck}
 use Rattle.form.specs.Forms.{wordKind}
 use Rattle.form.specs.Notes.{noted, noteOf}
-use Rattle.form.specs.Unions.{unnamed, called, wordHead, definitionHead, headOf, unionCheck}
+use Rattle.rules.specs.Unions.{unnamed, called, wordHead, definitionHead, headOf, unionCheck}
 use Rattle.schema.specs.Out.{Out, refused, read, each}
 use Rattle.schema.specs.Schema.{rowWith, row, Around, within, aliasRows, referenceRows, primitiveRows, wordRows, definitionRows, definition, partRows}
 use Rattle.resolve.specs.Kinds.{isKind, isPrimitive, isDefinition, isNamed, isSchema, isAliasOf, hasOne, isPartOf, past, bodyFits, partsFit}

@@ -1,12 +1,10 @@
 -- Kinds by their numbers.
 -- Assumes nothing.
-use mathlib.Core.Path.{_≡_, refl, sym, ap, _∙_}
-use mathlib.Core.Bool.{Bool, true, false, not, cond, _&&_, _||_}
-use mathlib.Core.List.{List, [], _∷_, _++_}
-use Prim.Native.Nat.{ℕ, zero, suc, _+_, _<_, _≤_}
-use native.Mathlib.Omega.{arith}
+use mathlib.Core.Path.{_≡_, refl, sym}
+use mathlib.Core.Bool.{Bool, true, false, _||_}
+use Prim.Native.Nat.{ℕ}
 use lib.Dec.{eqb, ltb}
-use borrow.Author.Tests.{eqb-true}
+use borrow.Author.Tests.{eqb-true, ne-eqb}
 use Rattle.row.specs.Kinds.{kindNumber}
 use Rattle.row.specs.declared.kind.Kind.{Kind}
 use Rattle.row.specs.declared.kind.Kind.the-variants.{Null, Boolean, Int, Long, Float, Double, Bytes, String, Reference, Array, Map, Union, Record, Enum, Fixed, Field, Symbol, Alias, FieldAlias}
@@ -42,3 +40,7 @@ definition-reference k e = go (kindNumber k) _ refl e
     go : (n : ℕ) (b : Bool) → eqb n 16 ≡ b → (eqb n 32 || eqb n 33 || eqb n 34) ≡ true → b ≡ false
     go n false p q = refl
     go n true p q = sym (rw (eqb-true n 16 p) at q)
+
+pub kind-not : (kind k : Kind) → (kindNumber k ≡ kindNumber kind → ⊥) → isKind kind k ≡ false
+unfolding isKind
+kind-not kind k h = ne-eqb (kindNumber k) (kindNumber kind) h

@@ -1,9 +1,9 @@
 -- What a set cites: well-formed memory is exactly the encoding of a good set, and how good sets grow and are cut.
 -- Assumes nothing.
-use mathlib.Core.Path.{_≡_, refl, sym, ap, ap₂, _∙_}
-use mathlib.Core.Bool.{Bool, true, false, not, cond, _&&_, _||_}
-use mathlib.Core.List.{List, [], _∷_, _++_, append-assoc, append-nil}
-use Prim.Native.Nat.{ℕ, zero, suc, _+_, _-_, _^_, _<_, _≤_}
+use mathlib.Core.Path.{_≡_, refl, sym, ap, _∙_}
+use mathlib.Core.Bool.{Bool, true, false, cond, _&&_, _||_}
+use mathlib.Core.List.{List, [], _∷_, _++_, append-nil}
+use Prim.Native.Nat.{ℕ, _+_, _^_, _<_, _≤_}
 use native.Mathlib.Omega.{arith}
 use lib.Dec.{eqb, leb, ltb}
 use lib.ListN.{length, take, drop, length-append, take-append-drop}
@@ -19,7 +19,7 @@ use Rattle.row.proofs.RowLaws.{fit-both, texts-append}
 use Rattle.row.proofs.SetLaws.{flat-append}
 use Rattle.row.proofs.Laws.{decode-encode, encode-none, encoding-true, true-encoding}
 use Rattle.resolve.specs.Kinds.{isKind, isSchema}
-use Rattle.resolve.specs.Rules.{goodText, goodSize, goodNote, goodDecimal, goodNumbers, goodParts, noClash, goodRow, goodRows, climbs, isDeclaration}
+use Rattle.resolve.specs.Rules.{goodText, goodSize, goodNote, goodDecimal, goodNumbers, goodParts, goodRow, goodRows, climbs, isDeclaration}
 use Rattle.resolve.specs.Resolve.{faultIn, orElse, isResolved, resolves}
 use Rattle.resolve.specs.WellFormed.{Good, keepsRules, wellFormed}
 use Rattle.resolve.specs.declared.Resolution.{Resolution}

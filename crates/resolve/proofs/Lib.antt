@@ -5,3 +5,4 @@ pub mod TreeLaws
 pub mod DecodeLaws
 pub mod Laws
 pub mod RuleLaws
+pub mod GrowLaws

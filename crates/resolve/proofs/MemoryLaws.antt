@@ -1,14 +1,14 @@
 -- Rows in memory, one after the other.
 -- Assumes nothing.
-use mathlib.Core.Path.{_≡_, refl, sym, ap, ap₂, _∙_}
+use mathlib.Core.Path.{_≡_, refl, ap, _∙_}
 use mathlib.Core.List.{List, [], _∷_, _++_}
 use Prim.Native.Nat.{ℕ, zero, suc, _+_, _-_, _*_, _<_, _≤_}
 use native.Mathlib.Nat.{add-zero, sub-zero}
 use native.Mathlib.Omega.{arith}
-use lib.ListN.{length, take, drop}
+use lib.ListN.{length, drop}
 use lib.Seq.{drop-drop}
 use Rattle.row.specs.Layout.{rowSize, rowsStart, stringsStart}
-use Rattle.row.specs.Rows.{Row, rowOf, entryOf, textOf, rowsOf}
+use Rattle.row.specs.Rows.{Row, rowsOf}
 use Rattle.row.specs.Sets.{rowsFrom}
 use Rattle.row.specs.Memory.{entryAt, textAt, rowAt}
 

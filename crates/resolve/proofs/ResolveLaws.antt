@@ -1,23 +1,20 @@
 -- Names over rows: what is defined among rows in two parts, the turns of the loops, and faults of rows in two parts.
 -- Assumes nothing.
-use mathlib.Core.Path.{_≡_, refl, sym, ap, ap₂, _∙_}
-use mathlib.Core.Bool.{Bool, true, false, not, cond, _&&_, _||_, or-assoc}
+use mathlib.Core.Path.{_≡_, refl, sym, ap, _∙_}
+use mathlib.Core.Bool.{Bool, true, false, _||_, or-assoc}
 use mathlib.Core.List.{List, [], _∷_, _++_, append-assoc, append-nil}
-use Prim.Native.Nat.{ℕ, zero, suc, _+_, _-_, _<_, _≤_}
-use native.Mathlib.Omega.{arith}
+use Prim.Native.Nat.{ℕ, _+_, _-_, _<_, _≤_}
 use Rattle.answer.specs.declared.refusal.Fault.{Fault}
 use Rattle.answer.specs.declared.refusal.Why.{Why}
 use Rattle.answer.specs.declared.refusal.Why.the-variants.{DefinedAlready, ReferenceUnknown}
-use Rattle.ground.specs.Bytes.{same}
 use Rattle.row.specs.Rows.{Row}
-use Rattle.row.specs.Sets.{flat, rowsFrom}
+use Rattle.row.specs.Sets.{rowsFrom}
 use Rattle.row.specs.Memory.{entryAt, textAt, rowAt}
 use Rattle.row.specs.declared.Entry.{Entry}
 use Rattle.row.specs.declared.kind.Kind.the-variants.{Reference}
-use Rattle.row.proofs.SetLaws.{flat-append}
 use Rattle.resolve.specs.Kinds.{isKind, isDefinition}
 use Rattle.resolve.specs.Rules.{some}
-use Rattle.resolve.specs.Resolve.{defines, isDefined, faulty, faultOf, orElse, faultIn, isResolved, resolves}
+use Rattle.resolve.specs.Resolve.{defines, isDefined, faulty, faultOf, orElse, faultIn}
 use Rattle.resolve.specs.declared.Resolution.{Resolution}
 use Rattle.resolve.specs.declared.Resolution.the-variants.{Resolved, Faulty}
 use Rattle.resolve.proofs.KindLaws.{definition-reference}

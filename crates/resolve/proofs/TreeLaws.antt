@@ -1,15 +1,15 @@
 -- The turns of the walks over the rows under a row, over plain values.
 -- Assumes nothing.
-use mathlib.Core.Path.{_≡_, refl, sym, ap, ap₂, _∙_}
-use mathlib.Core.Bool.{Bool, true, false, not, cond, _&&_, _||_, and-false}
-use mathlib.Core.List.{List, [], _∷_, _++_}
+use mathlib.Core.Path.{_≡_, refl, sym, ap, _∙_}
+use mathlib.Core.Bool.{Bool, true, false, cond, _&&_, _||_, and-false}
+use mathlib.Core.List.{List, [], _∷_}
 use Prim.Native.Nat.{ℕ, zero, suc, _+_, _-_, _<_, _≤_}
 use native.Mathlib.Nat.{add-zero}
 use native.Mathlib.Numerals.{add-one}
 use native.Mathlib.Omega.{arith}
-use lib.Dec.{eqb, leb, ltb, eqb·suc-zero}
+use lib.Dec.{eqb, eqb·suc-zero}
 use lib.ListN.{length}
-use borrow.Author.Tests.{lt-ltb, le-ltb, le-leb, lt-leb, eq-eqb, ne-eqb, eqb-true, eqb-false}
+use borrow.Author.Tests.{lt-ltb, le-ltb, le-leb, lt-leb, eq-eqb, ne-eqb}
 use Rattle.name.specs.Name.{every}
 use Rattle.ground.specs.Bytes.{same}
 use Rattle.row.specs.Rows.{Row, rowOf}
@@ -18,7 +18,7 @@ use Rattle.row.specs.Memory.{entryAt, textAt, rowAt}
 use Rattle.row.specs.declared.Entry.{Entry}
 use Rattle.row.specs.declared.kind.Kind.{Kind}
 use Rattle.row.specs.declared.kind.Kind.the-variants.{Union, Record, Enum, Field, Symbol}
-use Rattle.resolve.specs.Kinds.{isKind, isSchema, isAliasOf, isPartOf, hasOne, past, bodyFits, partsFit}
+use Rattle.resolve.specs.Kinds.{isKind, isSchema, isPartOf, past, bodyFits, partsFit}
 use Rattle.resolve.specs.Rules.{goodText, goodNumbers, under, kindsAt, isAt, isFieldName, takesName, sameSymbol, sameSchema, sameMember, clash, some, noTwo, goodParts, noClash, goodRow, goodRows, climbs, isDeclaration}
 use Rattle.resolve.specs.Steps.{isLeading, mayEnd, leftFit, isRuled, mayMeet}
 use Rattle.resolve.proofs.MemoryLaws.{rows-none, rows-cons, rows-next, rows-end}

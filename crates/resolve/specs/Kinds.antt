@@ -1,6 +1,5 @@
 -- Kinds of rows: which are schemas, which define a full name, and what may stand under a row of each kind.
 -- Assumes nothing.
-use Prim.Native.Nat.{ℕ}
 use mathlib.Core.Bool.{Bool, not, cond, _&&_, _||_}
 use mathlib.Core.List.{List, [], _∷_}
 use lib.Dec.{eqb}

@@ -7,7 +7,6 @@ use row::Kind;
 use row::read::kind_at;
 use row::read::string_of;
 ghost use mathlib.Core.Path.{_≡_};
-ghost use mathlib.Core.Bool.{_||_};
 ghost use Prim.Native.Nat.{_+_, _-_, _≤_, _<_};
 ghost use lib.ListN.{length};
 ghost use Rattle.ground.specs.Bytes.{same};

@@ -90,12 +90,12 @@ pub fn first_fault(set: &[u8], earlier: usize, from: &[u8], start: usize, n: usi
     requires { ⌜ (length (now set) ≡ layoutLength) × (earlier ≤ rowLimit) × (length (now from) ≡ layoutLength) × (start + n ≤ rowLimit) ⌝ }
     ensures { λ r. ⌜ r ≡ faultIn (rowsFrom (now (set .entry)) earlier 0) (rowsFrom (now (from .entry)) n start) ⌝ }
 {
-    let mut i = 0;
-    while i < n {
-        let r = fault_of(set, earlier, from, start, i);
+    let mut passed = 0;
+    while passed < n {
+        let r = fault_of(set, earlier, from, start, passed);
         match r {
             Resolution::Resolved => {
-                i += 1;
+                passed += 1;
             }
             Resolution::Faulty(f) => {
                 return Resolution::Faulty(f);

@@ -2,7 +2,7 @@
 use row::Layout;
 
 // 1 where the first n bytes are a well-formed set, 0 where they are not.
-pub fn judge(mem: &[u8], n: usize) {
+pub(crate) fn judge(mem: &[u8], n: usize) {
     if mem.len() < n {
         return;
     }
@@ -40,7 +40,7 @@ fn byte(mem: &mut [u8], at: usize) {
 }
 
 // Each of n bytes, by three values.
-pub fn bytes(mem: &mut [u8], at: usize, n: usize) {
+pub(crate) fn bytes(mem: &mut [u8], at: usize, n: usize) {
     let mut i = at;
     let mut left = n;
     while 0 < left {

@@ -104,7 +104,7 @@ fn line_end(text: &[u8], at: usize) -> usize
     i
 }
 
-pub fn run(text: &[u8], mem: &mut [u8]) {
+pub(crate) fn run(text: &[u8], mem: &mut [u8]) {
     let mut at = 0;
     while at < text.len() {
         let end = line_end(text, at);

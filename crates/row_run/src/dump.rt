@@ -6,7 +6,7 @@ fn digit(n: u8) -> u8 {
     if d < 10 { 48 + d } else { 87 + d }
 }
 
-pub fn hex(s: &[u8]) {
+pub(crate) fn hex(s: &[u8]) {
     let mut i = 0;
     while i < s.len() {
         let pair = [digit(s[i] / 16), digit(s[i])];
@@ -40,7 +40,7 @@ fn line(mem: &[u8], at: usize, n: usize) {
 }
 
 // The first line has 32 bytes, so that each row, of 34 bytes, has a line.
-pub fn dump(mem: &[u8]) {
+pub(crate) fn dump(mem: &[u8]) {
     line(mem, 0, 32);
     let mut at = 32;
     while at < Layout::LENGTH {

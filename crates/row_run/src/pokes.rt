@@ -46,7 +46,7 @@ fn another(mem: &mut [u8]) {
     poke(mem, 34882, 255);
 }
 
-pub fn pokes(mem: &mut [u8]) {
+pub(crate) fn pokes(mem: &mut [u8]) {
     header(mem);
     first_row(mem);
     all_else(mem);

@@ -90,20 +90,20 @@ fn second_half(mem: &mut [u8], counts: Counts) -> Counts {
 }
 
 // The rows of a record.
-pub fn record_declaration(mem: &mut [u8], counts: Counts) -> Counts {
+pub(crate) fn record_declaration(mem: &mut [u8], counts: Counts) -> Counts {
     let half = first_half(mem, counts);
     second_half(mem, half)
 }
 
 // The rows of an enum.
-pub fn enum_declaration(mem: &mut [u8], counts: Counts) -> Counts {
+pub(crate) fn enum_declaration(mem: &mut [u8], counts: Counts) -> Counts {
     let a = push(mem, counts, plain(Kind::Enum, 0, 32767), b"E");
     let b = push(mem, a, plain(Kind::Symbol, 1, 25), b"NORTH");
     push(mem, b, plain(Kind::Symbol, 513, 32766), b"SOUTH")
 }
 
 // The rows between two counts are the declaration at a place.
-pub fn close(mem: &mut [u8], place: usize, before: Counts, after: Counts) {
+pub(crate) fn close(mem: &mut [u8], place: usize, before: Counts, after: Counts) {
     let from = before.rows;
     let to = after.rows;
     if to < from {

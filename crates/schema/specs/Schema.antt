@@ -20,16 +20,16 @@ use Rattle.view.specs.declared.members.Members.{Members}
 use Rattle.form.specs.declared.forms.Form.{Form}
 use Rattle.form.specs.declared.forms.Form.the-variants as form
 use Rattle.form.specs.declared.note.Note.{Note}
-use Rattle.form.specs.declared.standing.Standing.{Standing}
-use Rattle.form.specs.declared.standing.Standing.the-variants.{Alone, MemberOf}
+use Rattle.rules.specs.declared.standing.Standing.{Standing}
+use Rattle.rules.specs.declared.standing.Standing.the-variants.{Alone, MemberOf}
 use Rattle.form.specs.Checks.{fault, _then_}
 use Rattle.form.specs.Spots.{onSpot, asText, asArray, aliasesIn, fieldsIn}
 use Rattle.form.specs.Names.{simpleCheck, fullAt, referenceCheck, aliasCheck, definedAt, definitionCheck}
 use Rattle.form.specs.Forms.{wordKind, formOf}
 use Rattle.form.specs.Notes.{onSize, noted, noteOf}
-use Rattle.form.specs.Unions.{called, unnamed, unionCheck}
-use Rattle.form.specs.Fields.{fieldNamesCheck}
-use Rattle.form.specs.Symbols.{symbolsCheck, defaultCheck}
+use Rattle.rules.specs.Unions.{called, unnamed, unionCheck}
+use Rattle.rules.specs.Fields.{fieldNamesCheck}
+use Rattle.rules.specs.Symbols.{symbolsCheck, defaultCheck}
 use Rattle.schema.specs.Out.{Out, refused, read, rowsThen, andThen, after, no, each}
 
 -- ---- rows

@@ -11,12 +11,12 @@ use Rattle.resolve.proofs.names.first_fault.Statement.{statement}
 use Rattle.resolve.proofs.names.first_fault.Tie as tie
 
 abbrev Inv-loop : tie.InvT-loop
-Inv-loop set earlier from start n i₀ i =
-    (i ≤ n)
-    × (faultIn (rowsFrom set earlier 0) (rowsFrom from n start) ≡ faultIn (rowsFrom set earlier 0 ++ rowsFrom from i start) (rowsFrom from (n - i) (start + i)))
+Inv-loop set earlier from start n passed₀ passed =
+    (passed ≤ n)
+    × (faultIn (rowsFrom set earlier 0) (rowsFrom from n start) ≡ faultIn (rowsFrom set earlier 0 ++ rowsFrom from passed start) (rowsFrom from (n - passed) (start + passed)))
 
 abbrev μ-loop : tie.MeasureT-loop
-μ-loop set earlier from start n i₀ i = n - i
+μ-loop set earlier from start n passed₀ passed = n - passed
 
 loop-holds : tie.Need-loop-holds Inv-loop μ-loop
 loop-holds c = (search needs, fault-start _ _ _ _)
@@ -27,8 +27,8 @@ fault-of-requires c κs = search needs
 enum-told : tie.Need-enum-told Inv-loop μ-loop
 enum-told c = search needs
 
-add-i : tie.Need-add-i Inv-loop μ-loop
-add-i c = search needs
+add-passed : tie.Need-add-passed Inv-loop μ-loop
+add-passed c = search needs
 
 loop-less : tie.Need-loop-less Inv-loop μ-loop
 loop-less c = search needs
@@ -46,4 +46,4 @@ returns-2 : tie.Need-returns-2 Inv-loop μ-loop
 returns-2 c = fault-end (rowsFrom (c .before .before .before .before .args .set .now) (c .before .before .before .before .args .earlier) 0) _ _ _ _ _ (c .before .loop .inv .1) (c .loop-test .left)
 
 pub first-fault-spec : {M : Type 1} → statement M
-first-fault-spec = tie.close (tie.spec Inv-loop μ-loop loop-holds fault-of-requires enum-told add-i loop-less loop-again enum-known-r returns returns-2)
+first-fault-spec = tie.close (tie.spec Inv-loop μ-loop loop-holds fault-of-requires enum-told add-passed loop-less loop-again enum-known-r returns returns-2)

@@ -1,0 +1,4 @@
+mod Deep
+mod Forms
+mod Rows
+pub mod Fuel

@@ -1,0 +1,273 @@
+-- What tells the members of a union apart: one law for each way out of the code, and the turns of its loops.
+-- Assumes nothing.
+use mathlib.Core.Path.{_≡_, refl, sym, ap, ap₂, _∙_}
+use mathlib.Core.Bool.{Bool, true, false, not, cond, _&&_, _||_}
+use mathlib.Core.List.{List, [], _∷_}
+use Prim.Native.Nat.{ℕ, _-_, _<_, _≤_}
+use native.Mathlib.Omega.{arith}
+use lib.Dec.{eqb}
+use lib.ListN.{length, take, drop}
+use borrow.Author.Tests.{eq-eqb, ne-eqb}
+use Rattle.answer.specs.declared.refusal.Fault.{Fault}
+use Rattle.answer.specs.declared.refusal.Why.the-variants.{UnionRuleBroken}
+use Rattle.ground.specs.Bytes.{same}
+use Rattle.ground.proofs.Laws.{same-unlike}
+use Rattle.name.specs.declared.qualify.Full.{Full}
+use Rattle.name.specs.declared.qualify.Full.the-variants.{Fits, TooLong}
+use Rattle.name.specs.Name.{fullName}
+use Rattle.name.specs.Full.{answerOf, bufferAfter}
+use Rattle.name.proofs.Laws.{too-long, buffer-length, fits-room, fits-front}
+use Rattle.row.specs.Kinds.{kindNumber}
+use Rattle.row.specs.declared.kind.Kind.{Kind}
+use Rattle.row.specs.declared.kind.Kind.the-variants.{Null, Boolean, Int, Long, Float, Double, Bytes, String, Reference, Array, Map, Union, Record, Enum, Fixed, Field, Symbol, Alias, FieldAlias}
+use Rattle.view.specs.declared.space.Spot.{Spot}
+use Rattle.view.specs.declared.space.Spot.the-variants.{At, Nowhere}
+use Rattle.view.specs.declared.members.Members.{Members}
+use Rattle.view.specs.Elements.{elements}
+use Rattle.view.specs.Strings.{stringAt}
+use Rattle.view.specs.Members.{membersOf}
+use Rattle.form.specs.declared.check.Check.{Check}
+use Rattle.form.specs.declared.check.Check.the-variants.{Fine, Bad}
+use Rattle.form.specs.declared.forms.Form.{Form}
+use Rattle.form.specs.declared.forms.Form.the-variants as form
+use Rattle.form.specs.declared.forms.Found.{Found}
+use Rattle.rules.specs.declared.standing.Standing.{Standing}
+use Rattle.rules.specs.declared.standing.Standing.the-variants.{Alone, MemberOf}
+use Rattle.form.specs.Checks.{fault, must}
+use Rattle.form.specs.Spots.{onSpot, asText}
+use Rattle.form.specs.Names.{fullAt, namespaceOf, definedAt}
+use Rattle.form.specs.Forms.{formOf, wordKind, found, foundOf}
+use Rattle.rules.specs.Unions.{Head, unnamed, called, clash, wordHead, definitionHead, headOf, headNumber, before, isNew, unionCheck}
+use Rattle.form.proofs.Laws.{found-form, found-members}
+use Rattle.rules.proofs.Earlier.{some}
+
+-- ---- the head of what was found, by the form's case; a definition's by the members
+
+module _ (t : List ℕ) (p : ℕ) {x : Found} (e : x ≡ foundOf t (formOf t p)) (namespace : List ℕ) {f : Form} (g : x .form ≡ f) where
+  pub head-is : {h : Head} → headOf t namespace f ≡ h → h ≡ headOf t namespace (formOf t p)
+  head-is i = sym i ∙ ap (headOf t namespace) (sym (found-form t p e g))
+
+  pub definition-is : headOf t namespace f ≡ definitionHead t namespace (foundOf t f .members)
+      → definitionHead t namespace (x .members) ≡ headOf t namespace (formOf t p)
+  definition-is i = ap (definitionHead t namespace) (found-members t p e g) ∙ head-is i
+
+-- ---- kinds
+
+-- every kind has a number, and it is not 0
+kind-some : (k : Kind) → eqb 0 (kindNumber k) ≡ false
+kind-some Null = refl
+kind-some Boolean = refl
+kind-some Int = refl
+kind-some Long = refl
+kind-some Float = refl
+kind-some Double = refl
+kind-some Bytes = refl
+kind-some String = refl
+kind-some Reference = refl
+kind-some Array = refl
+kind-some Map = refl
+kind-some Union = refl
+kind-some Record = refl
+kind-some Enum = refl
+kind-some Fixed = refl
+kind-some Field = refl
+kind-some Symbol = refl
+kind-some Alias = refl
+kind-some FieldAlias = refl
+
+clash-kind : (h : Head) (k : Kind) → clash h (unnamed k) ≡ eqb (headNumber h) (kindNumber k)
+unfolding clash
+clash-kind (unnamed j) k = refl
+clash-kind (called a) k = sym (kind-some k)
+
+module _ (t : List ℕ) (q : ℕ) {k : Kind} (e : k ≡ wordKind (stringAt t q)) {n : ℕ} (f : n ≡ kindNumber k) where
+  number-word : n ≡ kindNumber (wordKind (stringAt t q))
+  number-word = f ∙ ap kindNumber e
+
+  pub number-reference : {r : ℕ} → r ≡ 16 → n ≡ r → (namespace : List ℕ) → 0 ≡ headNumber (wordHead t namespace q (wordKind (stringAt t q)))
+  number-reference h g namespace = rw (eq-eqb (kindNumber (wordKind (stringAt t q))) 16 (sym number-word ∙ g ∙ h))
+
+  pub number-primitive : {r : ℕ} → r ≡ 16 → (n ≡ r → ⊥) → (namespace : List ℕ) → n ≡ headNumber (wordHead t namespace q (wordKind (stringAt t q)))
+  number-primitive h g namespace =
+      rw (ne-eqb (kindNumber (wordKind (stringAt t q))) 16 (λ z. g (number-word ∙ z ∙ sym h))) number-word
+
+  pub is-reference-yes : (namespace name : List ℕ) {r : ℕ} → r ≡ 16 → n ≡ r → {b : Bool} → b ≡ same (fullAt t namespace q) name
+      → b ≡ clash (wordHead t namespace q (wordKind (stringAt t q))) (called name)
+  unfolding clash
+  is-reference-yes namespace name h g i = rw (eq-eqb (kindNumber (wordKind (stringAt t q))) 16 (sym number-word ∙ g ∙ h)) i
+
+  pub is-reference-no : (namespace name : List ℕ) {r : ℕ} → r ≡ 16 → (n ≡ r → ⊥) → false ≡ clash (wordHead t namespace q (wordKind (stringAt t q))) (called name)
+  unfolding clash
+  is-reference-no namespace name h g = rw (ne-eqb (kindNumber (wordKind (stringAt t q))) 16 (λ z. g (number-word ∙ z ∙ sym h)))
+
+-- the head of a form, by its case
+module _ (t namespace : List ℕ) where
+  pub head-word : (q : ℕ) (o : Spot) → headOf t namespace (form.Word q o) ≡ wordHead t namespace q (wordKind (stringAt t q))
+  unfolding headOf
+  head-word q o = refl
+
+  pub head-array : (p : ℕ) → headOf t namespace (form.ArrayOf p) ≡ unnamed Array
+  unfolding headOf
+  head-array p = refl
+
+  pub head-map : (p : ℕ) → headOf t namespace (form.MapOf p) ≡ unnamed Map
+  unfolding headOf
+  head-map p = refl
+
+  pub head-union : (p : ℕ) → headOf t namespace (form.UnionOf p) ≡ unnamed Union
+  unfolding headOf
+  head-union p = refl
+
+  -- a definition by the members that were found with it
+  pub head-record : (p : ℕ) → headOf t namespace (form.RecordOf p) ≡ definitionHead t namespace (foundOf t (form.RecordOf p) .members)
+  unfolding headOf foundOf
+  head-record p = refl
+
+  pub head-enum : (p : ℕ) → headOf t namespace (form.EnumOf p) ≡ definitionHead t namespace (foundOf t (form.EnumOf p) .members)
+  unfolding headOf foundOf
+  head-enum p = refl
+
+  pub head-fixed : (p : ℕ) → headOf t namespace (form.FixedOf p) ≡ definitionHead t namespace (foundOf t (form.FixedOf p) .members)
+  unfolding headOf foundOf
+  head-fixed p = refl
+
+  pub head-wrong : (f : Fault) → headOf t namespace (form.Wrong f) ≡ called []
+  unfolding headOf
+  head-wrong f = refl
+
+  -- a definition is told by its full name
+  pub definition-number : (m : Members) → headNumber (definitionHead t namespace m) ≡ 0
+  unfolding definitionHead
+  definition-number m = go (asText t (m .name))
+    where
+      go : (s : Spot) → headNumber (onSpot s (λ q. called (definedAt t namespace m q)) (called [])) ≡ 0
+      go (At q) = refl
+      go Nowhere = refl
+
+pub clash-apart : (k : Kind) (name : List ℕ) → false ≡ clash (unnamed k) (called name)
+unfolding clash
+clash-apart k name = refl
+
+-- the kind that tells is the same in all namespaces
+word-free : (t namespace : List ℕ) (q : ℕ) (k : Kind) → headNumber (wordHead t [] q k) ≡ headNumber (wordHead t namespace q k)
+word-free t namespace q k = go (eqb (kindNumber k) 16)
+  where
+    go : (b : Bool) → headNumber (cond b (called (fullAt t [] q)) (unnamed k)) ≡ headNumber (cond b (called (fullAt t namespace q)) (unnamed k))
+    go true = refl
+    go false = refl
+
+number-free : (t namespace : List ℕ) (f : Form) → headNumber (headOf t [] f) ≡ headNumber (headOf t namespace f)
+unfolding headOf
+number-free t namespace (form.Word q o) = word-free t namespace q (wordKind (stringAt t q))
+number-free t namespace (form.ArrayOf p) = refl
+number-free t namespace (form.MapOf p) = refl
+number-free t namespace (form.UnionOf p) = refl
+number-free t namespace (form.RecordOf p) = definition-number t [] (membersOf t p) ∙ sym (definition-number t namespace (membersOf t p))
+number-free t namespace (form.EnumOf p) = definition-number t [] (membersOf t p) ∙ sym (definition-number t namespace (membersOf t p))
+number-free t namespace (form.FixedOf p) = definition-number t [] (membersOf t p) ∙ sym (definition-number t namespace (membersOf t p))
+number-free t namespace (form.Wrong f) = refl
+
+-- ---- full names
+
+module _ (t namespace : List ℕ) (q : ℕ) {w : List ℕ} (e : w ≡ stringAt t q) {a : Full} (m : List ℕ) {m′ : List ℕ}
+    (f : (a ≡ answerOf (fullName namespace w)) × (m′ ≡ bufferAfter m (fullName namespace w))) (name : List ℕ) (short : length name ≤ 255) where
+  pub named-long : a ≡ TooLong → false ≡ same (fullAt t namespace q) name
+  unfolding fullAt
+  named-long g =
+      let z = too-long (fullName namespace w) (sym (f .0) ∙ g) in
+      rw (← e) (sym (same-unlike (fullName namespace w) name (λ (i : length (fullName namespace w) ≡ length name). omega arith)))
+
+  module _ {k : ℕ} (g : a ≡ Fits k) (h : length m′ ≡ 255) where
+    as-long : length m ≡ 255
+    as-long = sym (ap length (f .1) ∙ buffer-length (fullName namespace w) m) ∙ h
+
+    pub named-room : k ≤ length m′
+    named-room = fits-room (fullName namespace w) m m′ a (f .0) (f .1) k g as-long
+
+    pub named-same : {b : Bool} → b ≡ same (take (k - 0) (drop 0 m′)) name → b ≡ same (fullAt t namespace q) name
+    unfolding fullAt
+    named-same i = i ∙ ap (λ (l : List ℕ). same l name) (fits-front (fullName namespace w) m m′ a (f .0) (f .1) k g as-long) ∙ rw e
+
+empty-same : (name : List ℕ) → eqb (length name) 0 ≡ same [] name
+unfolding same
+empty-same [] = refl
+empty-same (x ∷ name) = ne-eqb (length (x ∷ name)) 0 (λ (e : length (x ∷ name) ≡ 0). omega arith)
+
+pub clash-empty : (name : List ℕ) → eqb (length name) 0 ≡ clash (called []) (called name)
+unfolding clash
+clash-empty name = empty-same name
+
+module _ (t enclosing : List ℕ) (m : Members) (name : List ℕ) {s : Spot} (e : s ≡ asText t (m .name)) where
+  clash-by : {s′ : Spot} → s ≡ s′
+      → clash (definitionHead t enclosing m) (called name)
+      ≡ clash (onSpot s′ (λ q. called (definedAt t enclosing m q)) (called [])) (called name)
+  unfolding definitionHead
+  clash-by g = ap (λ (x : Spot). clash (onSpot x (λ q. called (definedAt t enclosing m q)) (called [])) (called name)) (sym e ∙ g)
+
+  pub definition-nameless : s ≡ Nowhere → eqb (length name) 0 ≡ clash (definitionHead t enclosing m) (called name)
+  definition-nameless g = clash-empty name ∙ sym (clash-by g)
+
+  module _ {p : ℕ} (g : s ≡ At p) {z : Spot} (h : z ≡ asText t (m .namespace)) where
+    full-in : {z′ : Spot} → z ≡ z′ → same (definedAt t enclosing m p) name ≡ same (fullAt t (onSpot z′ (stringAt t) enclosing) p) name
+    unfolding definedAt namespaceOf
+    full-in i = ap (λ (x : Spot). same (fullAt t (onSpot x (stringAt t) enclosing) p) name) (sym h ∙ i)
+
+    by-name : clash (definitionHead t enclosing m) (called name) ≡ same (definedAt t enclosing m p) name
+    unfolding clash
+    by-name = clash-by g
+
+    pub definition-in : z ≡ Nowhere → {b : Bool} → b ≡ same (fullAt t enclosing p) name → b ≡ clash (definitionHead t enclosing m) (called name)
+    definition-in i j = j ∙ sym (by-name ∙ full-in i)
+
+    pub definition-within : {q : ℕ} → z ≡ At q → {v : List ℕ} → v ≡ stringAt t q → {b : Bool} → b ≡ same (fullAt t v p) name
+        → b ≡ clash (definitionHead t enclosing m) (called name)
+    definition-within i {v} k j = j ∙ ap (λ (n : List ℕ). same (fullAt t n p) name) k ∙ sym (by-name ∙ full-in i)
+
+-- ---- the members before
+
+abbrev pub Clashes : List ℕ → List ℕ → Head → ℕ → Bool
+Clashes t namespace h q = clash (headOf t namespace (formOf t q)) h
+
+not-or : (a b : Bool) → (not a && not b) ≡ not (a || b)
+not-or true b = refl
+not-or false b = refl
+
+pub new-some : (t namespace : List ℕ) (h : Head) (ps : List ℕ) → not (some (Clashes t namespace h) ps) ≡ isNew t namespace h ps
+unfolding some isNew
+new-some t namespace h [] = refl
+new-some t namespace h (p ∷ ps) =
+    sym (not-or (Clashes t namespace h p) (some (Clashes t namespace h) ps)) ∙ ap (λ (z : Bool). not (Clashes t namespace h p) && z) (new-some t namespace h ps)
+
+-- where a kind is looked for, the number tells
+abbrev pub Numbered : List ℕ → ℕ → ℕ → Bool
+Numbered t n q = eqb (headNumber (headOf t [] (formOf t q))) n
+
+pub kind-some-new : (t namespace : List ℕ) (k : Kind) {n : ℕ} → n ≡ kindNumber k → (ps : List ℕ) → not (some (Numbered t n) ps) ≡ isNew t namespace (unnamed k) ps
+unfolding some isNew
+kind-some-new t namespace k e [] = refl
+kind-some-new t namespace k {n} e (p ∷ ps) =
+    let z : Numbered t n p ≡ Clashes t namespace (unnamed k) p =
+    ap₂ eqb (number-free t namespace (formOf t p)) e ∙ sym (clash-kind (headOf t namespace (formOf t p)) k) in
+    sym (not-or (Numbered t n p) (some (Numbered t n) ps)) ∙ ap₂ (λ (a b : Bool). not a && b) z (kind-some-new t namespace k e ps)
+
+-- ---- the rule
+
+module _ (t namespace : List ℕ) {s : Standing} where
+  pub alone-fine : (h : Head) → s ≡ Alone → Fine ≡ unionCheck t namespace s h
+  unfolding unionCheck
+  alone-fine h e = rw e
+
+  module _ {u p : ℕ} (e : s ≡ MemberOf u p) where
+    pub union-in-union : (k : Kind) {n m : ℕ} → n ≡ kindNumber k → m ≡ 26 → n ≡ m → Bad (fault UnionRuleBroken p) ≡ unionCheck t namespace s (unnamed k)
+    unfolding unionCheck
+    union-in-union k f g h = rw (e, eq-eqb (kindNumber k) 26 (sym f ∙ h ∙ g))
+
+    pub kind-new : (k : Kind) {n m : ℕ} → n ≡ kindNumber k → m ≡ 26 → (n ≡ m → ⊥) → {b : Bool} → b ≡ isNew t namespace (unnamed k) (before p (elements t u))
+        → {r : Check} → r ≡ must b (fault UnionRuleBroken p) → r ≡ unionCheck t namespace s (unnamed k)
+    unfolding unionCheck
+    kind-new k f g h i j = rw (e, ne-eqb (kindNumber k) 26 (λ z. h (f ∙ z ∙ sym g)), ← i) j
+
+    pub name-new : (a : List ℕ) {b : Bool} → b ≡ isNew t namespace (called a) (before p (elements t u))
+        → {r : Check} → r ≡ must b (fault UnionRuleBroken p) → r ≡ unionCheck t namespace s (called a)
+    unfolding unionCheck
+    name-new a i j = rw (e, ← i) j

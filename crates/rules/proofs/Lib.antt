@@ -1,0 +1,4 @@
+mod Earlier
+mod Listed
+mod Heads
+pub mod Laws

@@ -1,0 +1,267 @@
+-- Symbols and fields in order: the turns of the loops.
+-- Assumes nothing.
+use mathlib.Core.Path.{_≡_, refl, sym, ap, ap₂, _∙_}
+use mathlib.Core.Bool.{Bool, true, false, not, cond, _&&_, _||_}
+use mathlib.Core.List.{List, [], _∷_, _++_, map, map-append, append-assoc, append-nil}
+use Prim.Native.Nat.{ℕ}
+use native.Mathlib.Omega.{arith}
+use lib.Dec.{eqb}
+use lib.ListN.{length}
+use Rattle.answer.specs.declared.refusal.Fault.{Fault}
+use Rattle.answer.specs.declared.refusal.Why.the-variants.{SymbolNotAString, SymbolTwice, DefaultNotAString, DefaultNotASymbol, FieldNameTaken}
+use Rattle.ground.specs.Bytes.{same}
+use Rattle.name.specs.Name.{isOneOf}
+use Rattle.name.proofs.Laws.{one-of-append}
+use Rattle.view.specs.declared.space.Spot.{Spot}
+use Rattle.view.specs.declared.space.Spot.the-variants.{At, Nowhere}
+use Rattle.view.specs.Values.{shapeAt}
+use Rattle.view.specs.Strings.{stringAt}
+use Rattle.view.specs.Members.{membersOf}
+use Rattle.view.specs.declared.members.Members.{Members}
+use Rattle.view.specs.Elements.{firstElement, nextElement, elementsAt, elements}
+use Rattle.view.proofs.Laws.{left-start, left-done, left-next}
+use Rattle.form.specs.declared.check.Check.{Check}
+use Rattle.form.specs.declared.check.Check.the-variants.{Fine, Bad}
+use Rattle.form.specs.Checks.{fault, must, _then_, eachOf}
+use Rattle.form.specs.Spots.{onSpot, isText, isObject, asText, aliasesIn, objectsAmong, fieldsIn}
+use Rattle.form.specs.Names.{simpleCheck}
+use Rattle.rules.specs.Unions.{before}
+use Rattle.rules.specs.Symbols.{symbolsNew, symbolsCheck, defaultCheck}
+use Rattle.rules.specs.Fields.{fieldNameAt, fieldName, takenBy, takenAmong, fieldNamesCheck}
+use Rattle.rules.proofs.Earlier.{Passed, passed-start, passed-next, passed-before, some, before-end}
+
+-- ---- one of some strings of the text
+
+abbrev pub Alike : List ℕ → ℕ → ℕ → Bool
+Alike t at p = same (stringAt t at) (stringAt t p)
+
+pub among-some : (t : List ℕ) (at : ℕ) (ps : List ℕ) → some (Alike t at) ps ≡ isOneOf (map (stringAt t) ps) (stringAt t at)
+unfolding some isOneOf
+among-some t at [] = refl
+among-some t at (p ∷ ps) = ap (λ (z : Bool). same (stringAt t at) (stringAt t p) || z) (among-some t at ps)
+
+-- ---- one of the names that fields take
+
+abbrev pub Takes : List ℕ → ℕ → ℕ → Bool
+Takes t at p = isObject (shapeAt t p) && isOneOf (takenBy t p) (stringAt t at)
+
+taken-one : (t : List ℕ) (p : ℕ) (s : List ℕ) (b : Bool) → isOneOf (cond b (takenBy t p) []) s ≡ (b && isOneOf (takenBy t p) s)
+unfolding isOneOf
+taken-one t p s true = refl
+taken-one t p s false = refl
+
+pub taken-some : (t : List ℕ) (at : ℕ) (ps : List ℕ) → some (Takes t at) ps ≡ isOneOf (takenAmong t ps) (stringAt t at)
+unfolding some isOneOf takenAmong
+taken-some t at [] = refl
+taken-some t at (p ∷ ps) =
+    ap₂ _||_ (sym (taken-one t p (stringAt t at) (isObject (shapeAt t p)))) (taken-some t at ps)
+    ∙ sym (one-of-append (cond (isObject (shapeAt t p)) (takenBy t p) []) (takenAmong t ps) (stringAt t at))
+
+-- where a field's name is, by its members
+name-of : (t : List ℕ) (f : ℕ) {m : Members} → m ≡ membersOf t f → {q : ℕ} → q ≡ onSpot (asText t (m .name)) (λ p. p) f → q ≡ fieldNameAt t f
+unfolding fieldNameAt
+name-of t f d e = e ∙ ap (λ (m : Members). onSpot (asText t (m .name)) (λ p. p) f) d
+
+module _ (t : List ℕ) (f at : ℕ) {m : Members} (d : m ≡ membersOf t f) {q : ℕ} (e : q ≡ onSpot (asText t (m .name)) (λ p. p) f) {b : Bool}
+    (g : b ≡ same (stringAt t at) (stringAt t q)) where
+  pub takes-name : b ≡ true → true ≡ isOneOf (takenBy t f) (stringAt t at)
+  unfolding isOneOf takenBy
+  takes-name h = rw (← name-of t f d e, ← g, h)
+
+  pub takes-alias : b ≡ false → {c : Bool} → c ≡ isOneOf (map (stringAt t) (aliasesIn t (m .aliases))) (stringAt t at) → c ≡ isOneOf (takenBy t f) (stringAt t at)
+  unfolding isOneOf takenBy
+  takes-alias h i =
+      i ∙ ap (λ (m : Members). isOneOf (map (stringAt t) (aliasesIn t (m .aliases))) (stringAt t at)) d
+      ∙ rw (← name-of t f d e, ← g, h)
+
+module _ (t : List ℕ) (f : ℕ) (m : Members) {s : Spot} (e : s ≡ asText t (m .name)) where
+  pub name-here : {p : ℕ} → s ≡ At p → p ≡ onSpot (asText t (m .name)) (λ q. q) f
+  name-here g = ap (λ (x : Spot). onSpot x (λ q. q) f) (sym g ∙ e)
+
+  pub name-missing : s ≡ Nowhere → f ≡ onSpot (asText t (m .name)) (λ q. q) f
+  name-missing g = ap (λ (x : Spot). onSpot x (λ q. q) f) (sym g ∙ e)
+
+-- ---- 13
+
+abbrev pub stringsOf : List ℕ → List ℕ → Check
+stringsOf t ps = eachOf (λ q. must (isText (shapeAt t q)) (fault SymbolNotAString q)) ps
+
+module _ (t : List ℕ) {s : Spot} {x : Check} (inv : stringsOf t (elementsAt t s) ≡ x) where
+  pub strings-done : s ≡ Nowhere → Fine ≡ x
+  unfolding eachOf
+  strings-done e = sym (ap (stringsOf t) (left-done t e)) ∙ inv
+
+  module _ {p : ℕ} (e : s ≡ At p) {b : Bool} (f : b ≡ isText (shapeAt t p)) where
+    strings-step : (must b (fault SymbolNotAString p) then stringsOf t (elementsAt t (nextElement t p))) ≡ x
+    unfolding eachOf
+    strings-step = rw f (sym (ap (stringsOf t) (left-next t e refl)) ∙ inv)
+
+    pub strings-not : b ≡ false → Bad (fault SymbolNotAString p) ≡ x
+    strings-not g = rw g at strings-step
+
+    pub strings-turn : b ≡ true → {s′ : Spot} → s′ ≡ nextElement t p → stringsOf t (elementsAt t s′) ≡ x
+    strings-turn g h = rw (g, ← h) at strings-step
+
+-- ---- checks in order that look at those passed
+
+then-join : (a b c : Check) → (a then (b then c)) ≡ ((a then b) then c)
+then-join Fine b c = refl
+then-join (Bad f) b c = refl
+
+-- what is left of a check of all elements, given those that were passed, is the whole
+pub record Going (t : List ℕ) (p : ℕ) (s : Spot) (left : List ℕ → List ℕ → Check) (x : Check) : Type 0 where
+  pub past : List ℕ
+  pub passed : Passed t p s past
+  pub rest : left past (elementsAt t s) ≡ x
+
+module _ {t : List ℕ} {p : ℕ} {s : Spot} (left : List ℕ → List ℕ → Check) {x : Check} (inv : Going t p s left x) where
+  going-done : ((qs : List ℕ) → left qs [] ≡ Fine) → s ≡ Nowhere → Fine ≡ x
+  going-done stop e = sym (stop (inv .past)) ∙ sym (ap (left (inv .past)) (left-done t e)) ∙ inv .rest
+
+  -- the check of one element, by those before it in the array
+  module _ (one : List ℕ → ℕ → Check) (step : (qs : List ℕ) (q : ℕ) (ps : List ℕ) → left qs (q ∷ ps) ≡ (one qs q then left (qs ++ (q ∷ [])) ps))
+      {q : ℕ} (e : s ≡ At q) {r : Check} (f : r ≡ one (before q (elements t p)) q) where
+    going-step : {s′ : Spot} → s′ ≡ nextElement t q → (r then left (inv .past ++ (q ∷ [])) (elementsAt t s′)) ≡ x
+    going-step {s′} g =
+        ap (λ (c : Check). c then left (inv .past ++ (q ∷ [])) (elementsAt t s′)) (f ∙ ap (λ (l : List ℕ). one l q) (passed-before (inv .passed) e))
+        ∙ sym (step (inv .past) q (elementsAt t s′))
+        ∙ sym (ap (left (inv .past)) (left-next t e g))
+        ∙ inv .rest
+
+    going-bad : {y : Fault} → r ≡ Bad y → Bad y ≡ x
+    going-bad g = rw g at (going-step refl)
+
+    going-on : r ≡ Fine → {s′ : Spot} → s′ ≡ nextElement t q → Going t p s′ left x
+    going-on g h = record { past = inv .past ++ (q ∷ []); passed = passed-next (inv .passed) e h; rest = rw g at (going-step h) }
+
+-- ---- 14
+
+abbrev pub symbolsLeft : List ℕ → List ℕ → List ℕ → Check
+symbolsLeft t past qs = symbolsNew t (map (stringAt t) past) qs
+
+abbrev pub symbolAfter : List ℕ → List ℕ → ℕ → Check
+symbolAfter t past q = simpleCheck t q then must (not (isOneOf (map (stringAt t) past) (stringAt t q))) (fault SymbolTwice q)
+
+module _ (t past : List ℕ) (q : ℕ) {c : Check} (e : c ≡ simpleCheck t q) where
+  pub symbol-bad : {y : Fault} → c ≡ Bad y → Bad y ≡ symbolAfter t past q
+  symbol-bad f = rw (← e, f)
+
+  pub symbol-next : c ≡ Fine → {b : Bool} → b ≡ isOneOf (map (stringAt t) past) (stringAt t q)
+      → {r : Check} → r ≡ must (not b) (fault SymbolTwice q) → r ≡ symbolAfter t past q
+  symbol-next f g h = rw (← e, f, ← g) h
+
+module _ (t : List ℕ) where
+  symbols-stop : (qs : List ℕ) → symbolsLeft t qs [] ≡ Fine
+  unfolding symbolsNew
+  symbols-stop qs = refl
+
+  symbols-step : (qs : List ℕ) (q : ℕ) (ps : List ℕ) → symbolsLeft t qs (q ∷ ps) ≡ (symbolAfter t qs q then symbolsLeft t (qs ++ (q ∷ [])) ps)
+  unfolding symbolsNew
+  symbols-step qs q ps =
+      then-join (simpleCheck t q) (must (not (isOneOf (map (stringAt t) qs) (stringAt t q))) (fault SymbolTwice q))
+      (symbolsNew t (map (stringAt t) qs ++ (stringAt t q ∷ [])) ps)
+      ∙ ap (λ (l : List (List ℕ)). symbolAfter t qs q then symbolsNew t l ps) (sym (map-append (stringAt t) qs (q ∷ [])))
+
+  pub symbols-start : (p : ℕ) {s : Spot} → s ≡ firstElement t p → Going t p s (symbolsLeft t) (symbolsNew t [] (elements t p))
+  symbols-start p e = record { past = []; passed = passed-start t p e; rest = ap (symbolsNew t []) (left-start t p e) }
+
+  module _ {p : ℕ} {s : Spot} {x : Check} (inv : Going t p s (symbolsLeft t) x) where
+    pub symbols-done : s ≡ Nowhere → Fine ≡ x
+    symbols-done e = going-done (symbolsLeft t) inv symbols-stop e
+
+    module _ {q : ℕ} (e : s ≡ At q) {r : Check} (f : r ≡ symbolAfter t (before q (elements t p)) q) where
+      pub symbols-bad : {y : Fault} → r ≡ Bad y → Bad y ≡ x
+      symbols-bad g = going-bad (symbolsLeft t) inv (symbolAfter t) symbols-step e f g
+
+      pub symbols-on : r ≡ Fine → {s′ : Spot} → s′ ≡ nextElement t q → Going t p s′ (symbolsLeft t) x
+      symbols-on g h = going-on (symbolsLeft t) inv (symbolAfter t) symbols-step e f g h
+
+  module _ (p : ℕ) {c : Check} (e : c ≡ eachOf (λ q. must (isText (shapeAt t q)) (fault SymbolNotAString q)) (elements t p)) where
+    pub symbols-not : {y : Fault} → c ≡ Bad y → Bad y ≡ symbolsCheck t (elements t p)
+    unfolding symbolsCheck
+    symbols-not f = rw (← e, f)
+
+    pub symbols-each : c ≡ Fine → {r : Check} → r ≡ symbolsNew t [] (elements t p) → r ≡ symbolsCheck t (elements t p)
+    unfolding symbolsCheck
+    symbols-each f g = rw (← e, f) g
+
+-- ---- 15, 16
+
+module _ (t : List ℕ) (p : ℕ) {s : Spot} where
+  pub default-none : s ≡ Nowhere → Fine ≡ defaultCheck t s (elements t p)
+  unfolding defaultCheck
+  default-none e = rw e
+
+  module _ {v : ℕ} (e : s ≡ At v) {b : Bool} (f : b ≡ isText (shapeAt t v)) where
+    pub default-not : b ≡ false → Bad (fault DefaultNotAString v) ≡ defaultCheck t s (elements t p)
+    unfolding defaultCheck
+    default-not g = rw (e, ← f, g)
+
+    pub default-text : b ≡ true → {c : Bool} → c ≡ isOneOf (map (stringAt t) (before (length t) (elements t p))) (stringAt t v)
+        → {r : Check} → r ≡ must c (fault DefaultNotASymbol v) → r ≡ defaultCheck t s (elements t p)
+    unfolding defaultCheck
+    default-text g {c} h i =
+        let j : c ≡ isOneOf (map (stringAt t) (elements t p)) (stringAt t v) = h ∙ ap (λ (l : List ℕ). isOneOf (map (stringAt t) l) (stringAt t v)) (before-end t p) in
+        rw (e, ← f, g, ← j) i
+
+-- ---- 11
+
+abbrev pub fieldsLeft : List ℕ → List ℕ → List ℕ → Check
+fieldsLeft t past ps = fieldNamesCheck t (takenAmong t past) (objectsAmong t ps)
+
+abbrev pub fieldAfter : List ℕ → List ℕ → ℕ → Check
+fieldAfter t past p =
+    cond (isObject (shapeAt t p)) (must (not (isOneOf (takenAmong t past) (fieldName t p))) (fault FieldNameTaken (fieldNameAt t p))) Fine
+
+module _ (t : List ℕ) where
+  taken-append : (qs ps : List ℕ) → takenAmong t (qs ++ ps) ≡ takenAmong t qs ++ takenAmong t ps
+  unfolding takenAmong
+  taken-append [] ps = refl
+  taken-append (q ∷ qs) ps =
+      ap (λ (l : List (List ℕ)). cond (isObject (shapeAt t q)) (takenBy t q) [] ++ l) (taken-append qs ps)
+      ∙ sym (append-assoc (cond (isObject (shapeAt t q)) (takenBy t q) []) (takenAmong t qs) (takenAmong t ps))
+
+  taken-snoc : (qs : List ℕ) (q : ℕ) → takenAmong t (qs ++ (q ∷ [])) ≡ takenAmong t qs ++ cond (isObject (shapeAt t q)) (takenBy t q) []
+  unfolding takenAmong
+  taken-snoc qs q = taken-append qs (q ∷ []) ∙ ap (λ (l : List (List ℕ)). takenAmong t qs ++ l) (append-nil (cond (isObject (shapeAt t q)) (takenBy t q) []))
+
+  fields-stop : (qs : List ℕ) → fieldsLeft t qs [] ≡ Fine
+  unfolding fieldNamesCheck objectsAmong
+  fields-stop qs = refl
+
+  by-object : (qs : List ℕ) (q : ℕ) (ps : List ℕ) (b : Bool)
+      → fieldNamesCheck t (takenAmong t qs) (cond b (q ∷ objectsAmong t ps) (objectsAmong t ps))
+      ≡ (cond b (must (not (isOneOf (takenAmong t qs) (fieldName t q))) (fault FieldNameTaken (fieldNameAt t q))) Fine
+      then fieldNamesCheck t (takenAmong t qs ++ cond b (takenBy t q) []) (objectsAmong t ps))
+  unfolding fieldNamesCheck
+  by-object qs q ps true = refl
+  by-object qs q ps false = ap (λ (l : List (List ℕ)). fieldNamesCheck t l (objectsAmong t ps)) (sym (append-nil (takenAmong t qs)))
+
+  fields-step : (qs : List ℕ) (q : ℕ) (ps : List ℕ) → fieldsLeft t qs (q ∷ ps) ≡ (fieldAfter t qs q then fieldsLeft t (qs ++ (q ∷ [])) ps)
+  unfolding objectsAmong
+  fields-step qs q ps =
+      by-object qs q ps (isObject (shapeAt t q))
+      ∙ ap (λ (l : List (List ℕ)). fieldAfter t qs q then fieldNamesCheck t l (objectsAmong t ps)) (sym (taken-snoc qs q))
+
+  pub fields-start : (p : ℕ) {s : Spot} → s ≡ firstElement t p → Going t p s (fieldsLeft t) (fieldNamesCheck t [] (fieldsIn t p))
+  unfolding fieldsIn takenAmong
+  fields-start p e = record { past = []; passed = passed-start t p e; rest = ap (λ (l : List ℕ). fieldNamesCheck t [] (objectsAmong t l)) (left-start t p e) }
+
+  module _ {p : ℕ} {s : Spot} {x : Check} (inv : Going t p s (fieldsLeft t) x) where
+    pub fields-done : s ≡ Nowhere → Fine ≡ x
+    fields-done e = going-done (fieldsLeft t) inv fields-stop e
+
+    module _ {q : ℕ} (e : s ≡ At q) {r : Check} (f : r ≡ fieldAfter t (before q (elements t p)) q) where
+      pub fields-bad : {y : Fault} → r ≡ Bad y → Bad y ≡ x
+      fields-bad g = going-bad (fieldsLeft t) inv (fieldAfter t) fields-step e f g
+
+      pub fields-on : r ≡ Fine → {s′ : Spot} → s′ ≡ nextElement t q → Going t p s′ (fieldsLeft t) x
+      fields-on g h = going-on (fieldsLeft t) inv (fieldAfter t) fields-step e f g h
+
+  module _ (p q : ℕ) {b : Bool} (e : b ≡ isObject (shapeAt t q)) where
+    pub field-skipped : b ≡ false → Fine ≡ fieldAfter t (before q (elements t p)) q
+    field-skipped f = rw (← e, f)
+
+    pub field-new : b ≡ true → {m : Members} → m ≡ membersOf t q → {n : ℕ} → n ≡ onSpot (asText t (m .name)) (λ p. p) q → {c : Bool} → c ≡ isOneOf (takenAmong t (before q (elements t p))) (stringAt t n)
+        → {r : Check} → r ≡ must (not c) (fault FieldNameTaken n) → r ≡ fieldAfter t (before q (elements t p)) q
+    field-new f d g h i = rw (← e, f, ← name-of t q d g, ← h) i

@@ -1,0 +1,246 @@
+// Union: none may be a union, no two of one unnamed kind, no two of one full name.
+use super::standing::Standing;
+use answer::Fault;
+use answer::Why;
+use form::Check;
+use form::Form;
+use form::as_text;
+use form::find;
+use form::must;
+use form::word_kind;
+use ground::same;
+use name::Full;
+use name::full_name;
+use row::Kind;
+use view::Members;
+use view::Spot;
+use view::first_element;
+use view::next_element;
+use view::string_copy;
+ghost use mathlib.Core.Path.{_≡_};
+ghost use mathlib.Core.List.{List};
+ghost use Prim.Native.Nat.{ℕ, _≤_};
+ghost use lib.ListN.{length};
+ghost use Rattle.ground.specs.Bytes.{same};
+ghost use Rattle.view.specs.Elements.{elements};
+ghost use Rattle.view.specs.Strings.{stringAt};
+ghost use Rattle.form.specs.Names.{fullAt};
+ghost use Rattle.form.specs.Forms.{formOf, wordKind};
+ghost use Rattle.rules.specs.Unions.{unnamed, called, clash, wordHead, definitionHead, headOf, headNumber, before, isNew, unionCheck};
+
+// ---- schemas that are told apart by their kind
+
+// The number of the kind that a string names, 0 where it is a reference.
+fn word_number(text: &[u8], at: usize) -> u8
+    ensures { λ r. ⌜ ((namespace : List ℕ) → r ≡ headNumber (wordHead (now (text .entry)) namespace at (wordKind (stringAt (now (text .entry)) at)))) ⌝ }
+{
+    let number = word_kind(text, at).number();
+    if number == Kind::Reference.number() {
+        return 0;
+    }
+    number
+}
+
+// The number of an unnamed schema's kind, 0 where the schema is told by its full name.
+fn head_number(text: &[u8], at: usize) -> u8
+    ensures { λ r. ⌜ ((namespace : List ℕ) → r ≡ headNumber (headOf (now (text .entry)) namespace (formOf (now (text .entry)) at))) ⌝ }
+{
+    let found = find(text, at);
+    let form = found.form;
+    match form {
+        Form::Word(p, _) => word_number(text, p),
+        Form::ArrayOf(_) => Kind::Array.number(),
+        Form::MapOf(_) => Kind::Map.number(),
+        Form::UnionOf(_) => Kind::Union.number(),
+        Form::RecordOf(_) => 0,
+        Form::EnumOf(_) => 0,
+        Form::FixedOf(_) => 0,
+        Form::Wrong(_) => 0,
+    }
+}
+
+// Is no member of the union that stands before `member` of this kind?
+fn is_new_kind(text: &[u8], array: usize, member: usize, kind: Kind) -> bool
+    ensures { λ r. ⌜ ((namespace : List ℕ) → r ≡ isNew (now (text .entry)) namespace (unnamed kind) (before member (elements (now (text .entry)) array))) ⌝ }
+{
+    let number = kind.number();
+    let mut spot = first_element(text, array);
+    loop {
+        let Spot::At(p) = spot else {
+            return true;
+        };
+        if p == member {
+            return true;
+        }
+        if head_number(text, p) == number {
+            return false;
+        }
+        spot = next_element(text, p);
+    }
+}
+
+// 19, for a schema of an unnamed kind, in whatever namespace.
+pub fn new_kind(text: &[u8], standing: Standing, kind: Kind) -> Check
+    ensures { λ r. ⌜ ((namespace : List ℕ) → r ≡ unionCheck (now (text .entry)) namespace standing (unnamed kind)) ⌝ }
+{
+    let Standing::MemberOf(array, member) = standing else {
+        return Check::Fine;
+    };
+    if kind.number() == Kind::Union.number() {
+        return Check::Bad(Fault {
+            why: Why::UnionRuleBroken,
+            at: member,
+        });
+    }
+    must(
+        is_new_kind(text, array, member, kind),
+        Why::UnionRuleBroken,
+        member,
+    )
+}
+
+// ---- schemas that are told apart by their full name
+
+// Is this the full name of what is written at `at`, in a namespace?
+fn is_named(
+    text: &[u8],
+    namespace: &[u8],
+    at: usize,
+    name: &[u8],
+    word: &mut [u8; 32768],
+    other: &mut [u8; 255],
+) -> bool
+    requires { ⌜ (length (now text) ≤ 32768) × (length (now name) ≤ 255) ⌝ }
+    ensures { λ r. ⌜ r ≡ same (fullAt (now (text .entry)) (now (namespace .entry)) at) (now (name .entry)) ⌝ }
+{
+    let n = string_copy(text, at, word);
+    let all = &word[..];
+    let Full::Fits(k) = full_name(namespace, &all[0..n], other) else {
+        return false;
+    };
+    let whole = &other[..];
+    same(&whole[0..k], name)
+}
+
+// Is a string a reference to this full name?
+fn is_reference(
+    text: &[u8],
+    namespace: &[u8],
+    at: usize,
+    name: &[u8],
+    word: &mut [u8; 32768],
+    other: &mut [u8; 255],
+) -> bool
+    requires { ⌜ (length (now text) ≤ 32768) × (length (now name) ≤ 255) ⌝ }
+    ensures { λ r. ⌜ r ≡ clash (wordHead (now (text .entry)) (now (namespace .entry)) at (wordKind (stringAt (now (text .entry)) at))) (called (now (name .entry))) ⌝ }
+{
+    if word_kind(text, at).number() == Kind::Reference.number() {
+        return is_named(text, namespace, at, name, word, other);
+    }
+    false
+}
+
+// Has the definition with these members this full name?
+fn is_definition(
+    text: &[u8],
+    enclosing: &[u8],
+    members: Members,
+    name: &[u8],
+    word: &mut [u8; 32768],
+    space: &mut [u8; 32768],
+    other: &mut [u8; 255],
+) -> bool
+    requires { ⌜ (length (now text) ≤ 32768) × (length (now name) ≤ 255) ⌝ }
+    ensures { λ r. ⌜ r ≡ clash (definitionHead (now (text .entry)) (now (enclosing .entry)) members) (called (now (name .entry))) ⌝ }
+{
+    let own = members.name;
+    let Spot::At(p) = as_text(text, own) else {
+        return name.len() == 0;
+    };
+    let namespace = members.namespace;
+    let Spot::At(q) = as_text(text, namespace) else {
+        return is_named(text, enclosing, p, name, word, other);
+    };
+    let k = string_copy(text, q, space);
+    let all = &space[..];
+    is_named(text, &all[0..k], p, name, word, other)
+}
+
+// Has the schema at a place this full name?
+fn is_head(
+    text: &[u8],
+    namespace: &[u8],
+    at: usize,
+    name: &[u8],
+    word: &mut [u8; 32768],
+    space: &mut [u8; 32768],
+    other: &mut [u8; 255],
+) -> bool
+    requires { ⌜ (length (now text) ≤ 32768) × (length (now name) ≤ 255) ⌝ }
+    ensures { λ r. ⌜ r ≡ clash (headOf (now (text .entry)) (now (namespace .entry)) (formOf (now (text .entry)) at)) (called (now (name .entry))) ⌝ }
+{
+    let found = find(text, at);
+    let form = found.form;
+    let members = found.members;
+    match form {
+        Form::Word(p, _) => is_reference(text, namespace, p, name, word, other),
+        Form::ArrayOf(_) => false,
+        Form::MapOf(_) => false,
+        Form::UnionOf(_) => false,
+        Form::RecordOf(_) => is_definition(text, namespace, members, name, word, space, other),
+        Form::EnumOf(_) => is_definition(text, namespace, members, name, word, space, other),
+        Form::FixedOf(_) => is_definition(text, namespace, members, name, word, space, other),
+        Form::Wrong(_) => name.len() == 0,
+    }
+}
+
+// Has no member of the union that stands before `member` this full name?
+fn is_new_name(
+    text: &[u8],
+    namespace: &[u8],
+    array: usize,
+    member: usize,
+    name: &[u8],
+    word: &mut [u8; 32768],
+    space: &mut [u8; 32768],
+) -> bool
+    requires { ⌜ (length (now text) ≤ 32768) × (length (now name) ≤ 255) ⌝ }
+    ensures { λ r. ⌜ r ≡ isNew (now (text .entry)) (now (namespace .entry)) (called (now (name .entry))) (before member (elements (now (text .entry)) array)) ⌝ }
+{
+    let mut other: [u8; 255] = [0; 255];
+    let mut spot = first_element(text, array);
+    loop {
+        let Spot::At(p) = spot else {
+            return true;
+        };
+        if p == member {
+            return true;
+        }
+        if is_head(text, namespace, p, name, word, space, &mut other) {
+            return false;
+        }
+        spot = next_element(text, p);
+    }
+}
+
+// 19, for a schema with a full name, in a namespace.
+pub fn new_name(
+    text: &[u8],
+    namespace: &[u8],
+    standing: Standing,
+    name: &[u8],
+    word: &mut [u8; 32768],
+    space: &mut [u8; 32768],
+) -> Check
+    requires { ⌜ (length (now text) ≤ 32768) × (length (now name) ≤ 255) ⌝ }
+    ensures { λ r. ⌜ r ≡ unionCheck (now (text .entry)) (now (namespace .entry)) standing (called (now (name .entry))) ⌝ }
+{
+    let Standing::MemberOf(array, member) = standing else {
+        return Check::Fine;
+    };
+    must(
+        is_new_name(text, namespace, array, member, name, word, space),
+        Why::UnionRuleBroken,
+        member,
+    )
+}
