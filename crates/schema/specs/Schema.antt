@@ -5,6 +5,9 @@ use mathlib.Core.Bool.{Bool, cond}
 use mathlib.Core.List.{List, [], _∷_, _++_}
 use lib.Dec.{eqb}
 use Rattle.answer.specs.declared.refusal.Why.the-variants.{NestedTooDeep, TypeMissing, NameMissing, FieldsMissing, SymbolsMissing, SizeMissing, NotASize, ItemsMissing, ValuesMissing}
+use Rattle.json.specs.Json.{scanned}
+use Rattle.json.specs.declared.verdict.Scan.{Scan}
+use Rattle.json.specs.declared.verdict.Scan.the-variants.{Whole, Bad}
 use Rattle.name.specs.Name.{namespacePart}
 use Rattle.row.specs.Kinds.{kindNumber}
 use Rattle.row.specs.Rows.{Row}
@@ -188,3 +191,11 @@ schemaOf (suc n) t a d p = schemaBy (schemaOf n t) t a d (formOf t p)
 -- the rows of a declaration that was scanned. Brackets nest at most 64, so 65 schemas are enough
 unfoldable pub rowsOf : List ℕ → Out
 rowsOf t = schemaOf 65 t (within []) 0 (valueStart t)
+
+-- a declaration of any bytes: the scan's fault, if it has one, before all
+abbrev pub onScan : Scan → Out → Out
+onScan Whole next = next
+onScan (Bad f) next = refused f
+
+unfoldable pub declared : List ℕ → Out
+declared t = onScan (scanned t) (rowsOf t)

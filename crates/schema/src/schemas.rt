@@ -1,0 +1,379 @@
+// Any schema: records, unions, arrays and maps read the schemas in them.
+use super::definitions::define;
+use super::definitions::put_enum;
+use super::definitions::put_fixed;
+use super::fields::named_apart;
+use super::fields::put_field_head;
+use super::names::put;
+use super::walked::Defined;
+use super::walked::Walked;
+use super::words::put_word;
+use answer::Counts;
+use answer::Fault;
+use answer::Why;
+use form::Check;
+use form::Form;
+use form::as_array;
+use form::find;
+use form::is_object;
+use form::note::Note;
+use name::namespace_part;
+use row::Kind;
+use rules::Standing;
+use rules::new_kind;
+use view::Members;
+use view::Spot;
+use view::first_element;
+use view::members_at;
+use view::next_element;
+ghost use Prim.Native.Nat.{_+_, _<_};
+ghost use Rattle.form.specs.Checks.{fault};
+ghost use Rattle.form.specs.Spots.{fieldsIn};
+ghost use Rattle.schema.specs.Out.{refused};
+ghost use Rattle.schema.specs.Schema.{schemaOf, within, partRows, unionRows, recordRows, fieldsRows};
+ghost use Rattle.schema.specs.Did.{Did, Asks, around, elementRows};
+
+// The schema at `at`, in which `left` may nest.
+pub fn put_schema(
+    text: &[u8],
+    namespace: &[u8],
+    standing: Standing,
+    at: usize,
+    depth: u16,
+    left: usize,
+    draft: &mut [u8],
+    counts: Counts,
+    word: &mut [u8; 32768],
+    space: &mut [u8; 32768],
+) -> Walked
+    requires { ⌜ Asks (now text) depth left ⌝ }
+    ensures { λ r. ⌜ Did (now (draft .entry)) counts (now (draft .exit)) r (schemaOf left (now (text .entry)) (around (now (namespace .entry)) standing) depth at) ⌝ }
+{
+    if left == 0 {
+        return Walked::Bad(Fault {
+            why: Why::NestedTooDeep,
+            at,
+        });
+    }
+    let found = find(text, at);
+    let form = found.form;
+    let members = found.members;
+    let items = members.items;
+    let values = members.values;
+    let less = left - 1;
+    let mut full: [u8; 255] = [0; 255];
+    match form {
+        Form::Wrong(f) => Walked::Bad(f),
+        Form::Word(q, _) => put_word(
+            text,
+            namespace,
+            word,
+            space,
+            &mut full,
+            draft,
+            counts,
+            standing,
+            depth,
+            q,
+            members,
+        ),
+        Form::ArrayOf(p) => put_part(
+            text,
+            namespace,
+            standing,
+            Kind::Array,
+            p,
+            items,
+            Why::ItemsMissing,
+            depth,
+            less,
+            draft,
+            counts,
+            word,
+            space,
+        ),
+        Form::MapOf(p) => put_part(
+            text,
+            namespace,
+            standing,
+            Kind::Map,
+            p,
+            values,
+            Why::ValuesMissing,
+            depth,
+            less,
+            draft,
+            counts,
+            word,
+            space,
+        ),
+        Form::UnionOf(p) => put_union(
+            text,
+            namespace,
+            standing,
+            p,
+            depth,
+            less,
+            draft,
+            counts,
+            word,
+            space,
+        ),
+        Form::RecordOf(p) => put_record(
+            text,
+            namespace,
+            word,
+            space,
+            &mut full,
+            draft,
+            counts,
+            standing,
+            p,
+            members,
+            depth,
+            less,
+        ),
+        Form::EnumOf(p) => put_enum(
+            text,
+            namespace,
+            standing,
+            depth,
+            p,
+            members,
+            draft,
+            counts,
+            word,
+            space,
+        ),
+        Form::FixedOf(p) => put_fixed(
+            text,
+            namespace,
+            standing,
+            depth,
+            p,
+            members,
+            draft,
+            counts,
+            word,
+            space,
+        ),
+    }
+}
+
+// The array or map at `at`, and its one part.
+fn put_part(
+    text: &[u8],
+    namespace: &[u8],
+    standing: Standing,
+    kind: Kind,
+    at: usize,
+    part: Spot,
+    missing: Why,
+    depth: u16,
+    left: usize,
+    draft: &mut [u8],
+    counts: Counts,
+    word: &mut [u8; 32768],
+    space: &mut [u8; 32768],
+) -> Walked
+    requires { ⌜ Asks (now text) (depth + 1) left × (at < 65536) ⌝ }
+    ensures { λ r. ⌜ Did (now (draft .entry)) counts (now (draft .exit)) r (partRows (schemaOf left (now (text .entry))) (now (text .entry)) (around (now (namespace .entry)) standing) kind depth at part (refused (fault missing at))) ⌝ }
+{
+    if let Check::Bad(f) = new_kind(text, standing, kind) {
+        return Walked::Bad(f);
+    }
+    let Spot::At(q) = part else {
+        return Walked::Bad(Fault { why: missing, at });
+    };
+    let next = put(draft, counts, kind, depth, at, b"");
+    put_schema(
+        text,
+        namespace,
+        Standing::Alone,
+        q,
+        depth + 1,
+        left,
+        draft,
+        next,
+        word,
+        space,
+    )
+}
+
+// The union at `at`.
+fn put_union(
+    text: &[u8],
+    namespace: &[u8],
+    standing: Standing,
+    at: usize,
+    depth: u16,
+    left: usize,
+    draft: &mut [u8],
+    counts: Counts,
+    word: &mut [u8; 32768],
+    space: &mut [u8; 32768],
+) -> Walked
+    requires { ⌜ Asks (now text) (depth + 1) left × (at < 65536) ⌝ }
+    ensures { λ r. ⌜ Did (now (draft .entry)) counts (now (draft .exit)) r (unionRows (schemaOf left (now (text .entry))) (now (text .entry)) (around (now (namespace .entry)) standing) depth at) ⌝ }
+{
+    if let Check::Bad(f) = new_kind(text, standing, Kind::Union) {
+        return Walked::Bad(f);
+    }
+    let mut sum = put(draft, counts, Kind::Union, depth, at, b"");
+    let mut spot = first_element(text, at);
+    loop {
+        let Spot::At(p) = spot else {
+            return Walked::Read(sum);
+        };
+        let member = Standing::MemberOf(at, p);
+        match put_schema(
+            text,
+            namespace,
+            member,
+            p,
+            depth + 1,
+            left,
+            draft,
+            sum,
+            word,
+            space,
+        ) {
+            Walked::Bad(f) => return Walked::Bad(f),
+            Walked::Read(next) => {
+                sum = next;
+            }
+        }
+        spot = next_element(text, p);
+    }
+}
+
+// The record at `at`: its fields see its own namespace.
+fn put_record(
+    text: &[u8],
+    namespace: &[u8],
+    word: &mut [u8; 32768],
+    space: &mut [u8; 32768],
+    full: &mut [u8; 255],
+    draft: &mut [u8],
+    counts: Counts,
+    standing: Standing,
+    at: usize,
+    members: Members,
+    depth: u16,
+    left: usize,
+) -> Walked
+    requires { ⌜ Asks (now text) (depth + 2) left ⌝ }
+    ensures { λ r. ⌜ Did (now (draft .entry)) counts (now (draft .exit)) r (recordRows (schemaOf left (now (text .entry))) (now (text .entry)) (around (now (namespace .entry)) standing) depth at members) ⌝ }
+{
+    let none = Note {
+        note: 0,
+        precision: 0,
+        scale: 0,
+    };
+    match define(
+        text,
+        namespace,
+        word,
+        space,
+        full,
+        draft,
+        counts,
+        standing,
+        Kind::Record,
+        depth,
+        at,
+        members,
+        0,
+        none,
+    ) {
+        Defined::Bad(f) => Walked::Bad(f),
+        Defined::As(n, next) => {
+            let fields = members.fields;
+            let Spot::At(v) = as_array(text, fields) else {
+                return Walked::Bad(Fault {
+                    why: Why::FieldsMissing,
+                    at,
+                });
+            };
+            let all = &full[..];
+            let own = namespace_part(&all[0..n]);
+            put_fields(text, own, v, depth + 1, left, draft, next, word, space)
+        }
+    }
+}
+
+// The fields in the array, and then their names in order.
+fn put_fields(
+    text: &[u8],
+    namespace: &[u8],
+    array: usize,
+    depth: u16,
+    left: usize,
+    draft: &mut [u8],
+    counts: Counts,
+    word: &mut [u8; 32768],
+    space: &mut [u8; 32768],
+) -> Walked
+    requires { ⌜ Asks (now text) (depth + 1) left ⌝ }
+    ensures { λ r. ⌜ Did (now (draft .entry)) counts (now (draft .exit)) r (fieldsRows (schemaOf left (now (text .entry)) (within (now (namespace .entry)))) (now (text .entry)) depth (fieldsIn (now (text .entry)) array)) ⌝ }
+{
+    let mut sum = counts;
+    let mut spot = first_element(text, array);
+    loop {
+        let Spot::At(p) = spot else {
+            return named_apart(text, array, sum);
+        };
+        match put_field(text, namespace, p, depth, left, draft, sum, word, space) {
+            Walked::Bad(f) => return Walked::Bad(f),
+            Walked::Read(next) => {
+                sum = next;
+            }
+        }
+        spot = next_element(text, p);
+    }
+}
+
+// The field at `at`, and its type; what is no object is no field.
+fn put_field(
+    text: &[u8],
+    namespace: &[u8],
+    at: usize,
+    depth: u16,
+    left: usize,
+    draft: &mut [u8],
+    counts: Counts,
+    word: &mut [u8; 32768],
+    space: &mut [u8; 32768],
+) -> Walked
+    requires { ⌜ Asks (now text) (depth + 1) left ⌝ }
+    ensures { λ r. ⌜ Did (now (draft .entry)) counts (now (draft .exit)) r (elementRows (schemaOf left (now (text .entry)) (within (now (namespace .entry)))) (now (text .entry)) depth at) ⌝ }
+{
+    if !is_object(text, at) {
+        return Walked::Read(counts);
+    }
+    let members = members_at(text, at);
+    match put_field_head(text, depth, at, members, draft, counts, word) {
+        Walked::Bad(f) => Walked::Bad(f),
+        Walked::Read(next) => {
+            let typed = members.typed;
+            let Spot::At(q) = typed else {
+                return Walked::Bad(Fault {
+                    why: Why::TypeMissing,
+                    at,
+                });
+            };
+            put_schema(
+                text,
+                namespace,
+                Standing::Alone,
+                q,
+                depth + 1,
+                left,
+                draft,
+                next,
+                word,
+                space,
+            )
+        }
+    }
+}
