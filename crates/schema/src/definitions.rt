@@ -68,7 +68,7 @@ fn put_definition(
 }
 
 // The definition at `at` with these members, up to its aliases.
-pub fn define(
+pub(crate) fn define(
     text: &[u8],
     namespace: &[u8],
     word: &mut [u8; 32768],
@@ -151,7 +151,7 @@ fn put_checked_symbols(
     put_symbols(text, depth, v, draft, counts, word)
 }
 
-pub fn put_enum(
+pub(crate) fn put_enum(
     text: &[u8],
     namespace: &[u8],
     standing: Standing,
@@ -197,7 +197,7 @@ pub fn put_enum(
 
 // ---- fixeds
 
-pub fn put_fixed(
+pub(crate) fn put_fixed(
     text: &[u8],
     namespace: &[u8],
     standing: Standing,

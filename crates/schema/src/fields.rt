@@ -22,7 +22,7 @@ ghost use Rattle.schema.specs.Out.{read, after};
 ghost use Rattle.schema.specs.Did.{Did, fieldHead};
 
 // The field at `at` with these members: its name, its row, its aliases.
-pub fn put_field_head(
+pub(crate) fn put_field_head(
     text: &[u8],
     depth: u16,
     at: usize,
@@ -51,7 +51,7 @@ pub fn put_field_head(
 }
 
 // 11, for the `fields` at a place, whose rows are counted.
-pub fn named_apart(text: &[u8], array: usize, counts: Counts) -> Walked
+pub(crate) fn named_apart(text: &[u8], array: usize, counts: Counts) -> Walked
     ensures { λ r. ⌜ ((m : List ℕ) → Did m counts m r (after (fieldNamesCheck (now (text .entry)) [] (fieldsIn (now (text .entry)) array)) (read []))) ⌝ }
 {
     match field_names(text, array) {

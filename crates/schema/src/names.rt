@@ -25,7 +25,7 @@ ghost use Rattle.schema.specs.Schema.{rowWith, aliasRows, fieldAliasRows
 ghost use Rattle.schema.specs.Did.{Did, entry};
 
 // The row of a kind at a depth, all but its string.
-pub fn entry(kind: Kind, depth: u16, at: usize, size: u64, note: Note) -> Entry
+pub(crate) fn entry(kind: Kind, depth: u16, at: usize, size: u64, note: Note) -> Entry
     requires { ⌜ at < 65536 ⌝ }
     ensures { λ r. ⌜ r ≡ entry kind depth at size note ⌝ }
 {
@@ -41,7 +41,7 @@ pub fn entry(kind: Kind, depth: u16, at: usize, size: u64, note: Note) -> Entry
 }
 
 // A row with no size and no note, and its string.
-pub fn put(
+pub(crate) fn put(
     draft: &mut [u8],
     counts: Counts,
     kind: Kind,
@@ -63,7 +63,7 @@ pub fn put(
 }
 
 // The same with the string at `at`.
-pub fn put_string(
+pub(crate) fn put_string(
     text: &[u8],
     kind: Kind,
     depth: u16,
@@ -107,7 +107,7 @@ fn put_alias(
 }
 
 // Those from a place on, in the definition's own namespace.
-pub fn put_aliases(
+pub(crate) fn put_aliases(
     text: &[u8],
     namespace: &[u8],
     depth: u16,
@@ -159,7 +159,7 @@ fn put_field_alias(
 }
 
 // Those from a place on.
-pub fn put_field_aliases(
+pub(crate) fn put_field_aliases(
     text: &[u8],
     depth: u16,
     first: Spot,
@@ -188,7 +188,7 @@ pub fn put_field_aliases(
 
 // ---- the symbols of an enum, which were checked
 
-pub fn put_symbols(
+pub(crate) fn put_symbols(
     text: &[u8],
     depth: u16,
     array: usize,

@@ -34,7 +34,7 @@ ghost use Rattle.schema.specs.Schema.{schemaOf, within, partRows, unionR
 ghost use Rattle.schema.specs.Did.{Did, Asks, around, elementRows};
 
 // The schema at `at`, in which `left` may nest.
-pub fn put_schema(
+pub(crate) fn put_schema(
     text: &[u8],
     namespace: &[u8],
     standing: Standing,

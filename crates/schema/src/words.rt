@@ -98,7 +98,7 @@ fn put_primitive(
 }
 
 // The string at `at`, with the members of the object whose `type` it is.
-pub fn put_word(
+pub(crate) fn put_word(
     text: &[u8],
     namespace: &[u8],
     word: &mut [u8; 32768],
