@@ -1,9 +1,18 @@
--- A scan's answer as one number: the text's length where it is whole, else the place of its fault.
+-- Answers as one number.
 -- Assumes nothing.
 use Prim.Native.Nat.{ℕ}
+use Rattle.answer.specs.Limits.{noCounts}
+use Rattle.row.specs.Memory.{countedAll}
+use Rattle.schema.specs.Out.{Out, refused, read}
 use Rattle.json.specs.declared.verdict.Scan.{Scan}
 use Rattle.json.specs.declared.verdict.Scan.the-variants.{Whole, Bad}
 
+-- a scan: the text's length where it is whole, else the place of its fault
 abbrev pub placeOf : Scan → ℕ → ℕ
 placeOf Whole n = n
 placeOf (Bad f) n = f .at
+
+-- a declaration: how many rows it has, 0 where it is refused
+abbrev pub rowsRead : Out → ℕ
+rowsRead (refused f) = 0
+rowsRead (read rows) = countedAll noCounts rows .rows
