@@ -1,0 +1,159 @@
+-- THE THREE DEMANDS on a set, over what its calls promise (crate `set`: specs/Calls and specs/Naming). The words are those of specs/Building.
+-- Assumes nothing.
+use mathlib.Core.Path.{_≡_, sym, _∙_}
+use mathlib.Core.Bool.{true}
+use mathlib.Core.List.{List, [], _∷_, _++_}
+use Prim.Native.Nat.{ℕ, _<_, _≤_}
+use lib.ListN.{length, take}
+use Rattle.answer.specs.declared.counts.Counts.{Counts}
+use Rattle.answer.specs.declared.refusal.Why.the-variants.{NoSuchPlace}
+use Rattle.answer.specs.declared.refusal.Refusal.{Refusal}
+use Rattle.answer.specs.declared.Answer.the-variants.{Done, Refused}
+use Rattle.row.specs.Layout.{layoutLength}
+use Rattle.row.specs.Rows.{Row}
+use Rattle.row.specs.Sets.{decode}
+use Rattle.row.specs.Memory.{setCounts}
+use Rattle.resolve.specs.WellFormed.{wellFormed}
+use Rattle.resolve.proofs.Laws.{exact}
+use Rattle.set.specs.Lists.{Result}
+use Rattle.set.specs.Calls.{answerOf, memoryOf, opened, added, replaced}
+use Rattle.set.specs.Naming.{hasFullName, fullNameIn, refusedName, namingOf}
+use Rattle.set.specs.declared.naming.Naming.{Naming}
+use Rattle.set.specs.declared.naming.Naming.the-variants as naming
+use Rattle.demands.specs.Building.{Outcome, outcome, Allowed, emptySet, addEach, edit, Built, Joins, At, SameFront, Nameless, LaterBarred}
+use Rattle.demands.proofs.Holding.{refused-refuses, refused-leaves, added-kept, replaced-kept, replaced-formed, opened-formed, opened-empty, opened-length, held-formed, built-holds, held-answer, held-memory, held-nowhere, held-is, accepted-built}
+use Rattle.demands.proofs.Joined.{accepts-only, accepts-if}
+use Rattle.demands.proofs.Staying.{added-front, replaced-front, replace-later}
+use Rattle.demands.proofs.Named.{full-formed, name-of, nameless-if, nameless-only, nameless-said, calls-agree}
+
+-- ---- DEMAND 1: each public result is described fully, refusal or not, together with the lent bytes afterwards
+
+-- the scheme: any two outcomes that are both what the contract says coincide
+pub one {ℓ} : {A : Type ℓ} {x y z : A} → x ≡ z → y ≡ z → x ≡ y
+one p q = p ∙ sym q
+
+-- answer and memory together
+pub outcome-one : (m : List ℕ) (r : Result) (a b : Outcome) → Allowed m r a → Allowed m r b → a ≡ b
+outcome-one m r a b p q = λ i. record { answer = one (p .0) (q .0) i; memory = one (p .1) (q .1) i }
+
+pub open-one : (m : List ℕ) (a b : Outcome) → Allowed m (opened m) a → Allowed m (opened m) b → a ≡ b
+open-one m = outcome-one m (opened m)
+
+pub add-one : (m text : List ℕ) (a b : Outcome) → Allowed m (added m text) a → Allowed m (added m text) b → a ≡ b
+add-one m text = outcome-one m (added m text)
+
+pub replace-one : (m : List ℕ) (place : ℕ) (text : List ℕ) (a b : Outcome) → Allowed m (replaced m place text) a → Allowed m (replaced m place text) b → a ≡ b
+replace-one m place text = outcome-one m (replaced m place text)
+
+pub full-name-one : (m : List ℕ) (place i : ℕ) (a b : List ℕ) → a ≡ fullNameIn m place i → b ≡ fullNameIn m place i → a ≡ b
+full-name-one m place i a b = one
+
+pub naming-one : (m : List ℕ) (place i : ℕ) (a b : Naming) → a ≡ namingOf m place i → b ≡ namingOf m place i → a ≡ b
+naming-one m place i a b = one
+
+-- a refusal writes nothing
+pub refusal-writes-nothing : (m : List ℕ) (r : Result) (f : Refusal) → answerOf r ≡ Refused f → memoryOf m r ≡ m
+refusal-writes-nothing = refused-leaves
+
+-- whatever is asked of it, a well-formed set stays one, and open makes one
+pub open-well-formed : (m : List ℕ) → length m ≡ layoutLength → wellFormed (memoryOf m (opened m)) ≡ true
+open-well-formed = opened-formed
+
+pub add-well-formed : (m : List ℕ) → wellFormed m ≡ true → (text : List ℕ) → wellFormed (memoryOf m (added m text)) ≡ true
+add-well-formed = added-kept
+
+pub replace-well-formed : (m : List ℕ) → wellFormed m ≡ true → (place : ℕ) (text : List ℕ) → wellFormed (memoryOf m (replaced m place text)) ≡ true
+replace-well-formed = replaced-kept
+
+-- ---- DEMAND 2: a text is accepted exactly if it may join the set, and then its rows are one declaration more
+
+module _ (m : List ℕ) (wf : wellFormed m ≡ true) (text : List ℕ) where
+  -- only then: an accepted text joins, memory holds the set with its rows last, and the counts are that set's
+  pub add-accepts-only : (c : Counts) → answerOf (added m text) ≡ Done c
+      → (rows : List Row) × Joins (decode m) text rows × (decode (memoryOf m (added m text)) ≡ decode m ++ (rows ∷ [])) × (c ≡ setCounts (decode m ++ (rows ∷ [])))
+  add-accepts-only = accepts-only m wf text
+
+  -- and always then: so a set that refuses all is ruled out
+  pub add-accepts-if : (rows : List Row) → Joins (decode m) text rows
+      → (answerOf (added m text) ≡ Done (setCounts (decode m ++ (rows ∷ [])))) × (decode (memoryOf m (added m text)) ≡ decode m ++ (rows ∷ []))
+  add-accepts-if = accepts-if m wf text
+
+-- ---- DEMAND 3: replacing a text of a set is adding the edited list of texts, one by one, to the empty set
+
+module _ {m : List ℕ} {ts : List (List ℕ)} (built : Built m ts) (place : ℕ) (text : List ℕ) where
+  -- the whole answer: the counts, or number, place and position of the refusal
+  pub replace-answer : place < length ts → answerOf (replaced m place text) ≡ addEach emptySet (edit ts place text) .answer
+  replace-answer = held-answer (built-holds built) place text
+
+  -- where it is accepted, every byte of memory
+  pub replace-memory : (c : Counts) → place < length ts → answerOf (replaced m place text) ≡ Done c → memoryOf m (replaced m place text) ≡ addEach emptySet (edit ts place text) .memory
+  replace-memory = held-memory (built-holds built) place text
+
+  -- where it is refused, memory is as it was
+  pub replace-leaves : (f : Refusal) → answerOf (replaced m place text) ≡ Refused f → memoryOf m (replaced m place text) ≡ m
+  replace-leaves = refused-leaves m (replaced m place text)
+
+  -- 21 where there is no such place
+  pub replace-nowhere : length ts ≤ place → answerOf (replaced m place text) ≡ Refused (record { why = NoSuchPlace; place = place; at = 0 })
+  replace-nowhere = held-nowhere (built-holds built) place text
+
+-- the empty set is what open makes of any memory of the layout's length, and it accepts no other
+pub open-empties : (m : List ℕ) → length m ≡ layoutLength → outcome m (opened m) ≡ emptySet
+open-empties = opened-empty
+
+pub open-accepts-only : (m : List ℕ) (c : Counts) → answerOf (opened m) ≡ Done c → length m ≡ layoutLength
+open-accepts-only = opened-length
+
+-- memory that calls built from texts is what adding those texts one by one gives, and each of them is accepted
+pub built-is : {m : List ℕ} {ts : List (List ℕ)} → Built m ts → (c : Counts) × (addEach emptySet ts ≡ record { answer = Done c; memory = m })
+built-is b = held-is (built-holds b)
+
+-- and what adding texts one by one gives, if each is accepted, is memory that calls built from them
+pub accepted-is-built : (ts : List (List ℕ)) (c : Counts) → addEach emptySet ts .answer ≡ Done c → Built (addEach emptySet ts .memory) ts
+accepted-is-built = accepted-built
+
+pub built-well-formed : {m : List ℕ} {ts : List (List ℕ)} → Built m ts → wellFormed m ≡ true
+built-well-formed b = held-formed (built-holds b)
+
+-- ---- NOT MOVED: no row or string before the place moves
+
+module _ (m : List ℕ) (wf : wellFormed m ≡ true) (c : Counts) where
+  pub replace-moves-nothing : (place : ℕ) (text : List ℕ) → answerOf (replaced m place text) ≡ Done c → SameFront (take place (decode m)) (memoryOf m (replaced m place text)) m
+  replace-moves-nothing = replaced-front m wf c
+
+  pub add-moves-nothing : (text : List ℕ) → answerOf (added m text) ≡ Done c → SameFront (decode m) (memoryOf m (added m text)) m
+  add-moves-nothing = added-front m wf c
+
+-- ---- THE POSITION: where a later declaration breaks, it is reported by its place, with the byte position its rows recorded; 23 and 24 at 0
+
+pub later-position : (m : List ℕ) → wellFormed m ≡ true → (place : ℕ) (text : List ℕ) (r : Refusal) → answerOf (replaced m place text) ≡ Refused r → place < r .place → LaterBarred (decode m) place text r
+later-position m wf place text r e l = replace-later (decode m) place text r l (sym (replaced-formed m wf place text) ∙ refused-refuses (replaced m place text) r e)
+
+-- ---- NAMES: the full name of a row, by place and row number there from 0
+
+module _ (m : List ℕ) (wf : wellFormed m ≡ true) (place i : ℕ) where
+  -- of a definition, its alias or a reference: the string of the row
+  pub full-name-is : {rows : List Row} {r : Row} → At (decode m) place rows → At rows i r → hasFullName (r .kind) ≡ true → fullNameIn m place i ≡ r .text
+  full-name-is a b h = full-formed m place i wf ∙ name-of a b h
+
+  -- no bytes exactly if there is no such place, no such row there, or it has no full name
+  pub empty-only : fullNameIn m place i ≡ [] → Nameless (decode m) place i
+  empty-only e = nameless-only (decode m) (exact m wf .1 .declarations) place i (sym (full-formed m place i wf) ∙ e)
+
+  pub empty-if : Nameless (decode m) place i → fullNameIn m place i ≡ []
+  empty-if h = full-formed m place i wf ∙ nameless-if h
+
+  -- then the second call says 21, with the place that was asked for
+  pub naming-refuses : Nameless (decode m) place i → namingOf m place i ≡ refusedName NoSuchPlace place
+  naming-refuses = nameless-said m place i wf
+
+-- on any memory: full_name answers no bytes exactly where naming refuses, and naming answers its length otherwise
+module _ (m : List ℕ) (place i : ℕ) where
+  pub refused-where-empty : fullNameIn m place i ≡ [] → (f : Refusal) × (namingOf m place i ≡ naming.Refused f)
+  refused-where-empty = calls-agree m place i .none
+
+  pub empty-where-refused : (f : Refusal) → namingOf m place i ≡ naming.Refused f → fullNameIn m place i ≡ []
+  empty-where-refused = calls-agree m place i .refused
+
+  pub named-by-length : (n : ℕ) → namingOf m place i ≡ naming.Named n → (n ≡ length (fullNameIn m place i)) × (1 ≤ n)
+  named-by-length = calls-agree m place i .named

@@ -1,0 +1,1 @@
+// The three demands on a set, as theorems over what its calls promise.

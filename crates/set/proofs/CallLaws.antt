@@ -1,0 +1,191 @@
+-- The calls, test by test.
+-- Assumes nothing.
+use mathlib.Core.Path.{_≡_, sym, ap, _∙_}
+use mathlib.Core.Bool.{true, false}
+use mathlib.Core.List.{List, [], _∷_, _++_, append-nil}
+use Prim.Native.Nat.{ℕ, _+_, _<_, _≤_}
+use native.Mathlib.Omega.{arith}
+use lib.ListN.{length, take, drop, length-take, drop-of-length-le}
+use borrow.Author.Tests.{lt-ltb, le-ltb, eq-eqb, ne-eqb}
+use Rattle.answer.specs.declared.Answer.{Answer}
+use Rattle.answer.specs.declared.Answer.the-variants.{Done, Refused}
+use Rattle.answer.specs.declared.counts.Counts.{Counts}
+use Rattle.answer.specs.declared.refusal.Why.the-variants.{NotWellFormed, NoSuchPlace, TooManyDeclarations}
+use Rattle.answer.specs.declared.refusal.Refusal.{Refusal}
+use Rattle.answer.specs.declared.refusal.Fault.{Fault}
+use Rattle.answer.specs.Limits.{noCounts}
+use Rattle.answer.specs.Places.{placed}
+use Rattle.ground.specs.Bytes.{store}
+use Rattle.ground.proofs.Laws.{store-fits}
+use Rattle.row.specs.Layout.{declarationLimit, layoutLength}
+use Rattle.row.specs.Rows.{Row, texts}
+use Rattle.row.specs.Sets.{flat, zeros, encode, decode, countIn}
+use Rattle.row.specs.Memory.{setCounts}
+use Rattle.row.proofs.Laws.{encode-none, decode-encode, count-encode}
+use Rattle.resolve.specs.WellFormed.{Good, wellFormed}
+use Rattle.resolve.proofs.Laws.{cut-good, good-within, encode-good}
+use Rattle.schema.specs.declared.walked.Walked.{Walked}
+use Rattle.schema.specs.declared.walked.Walked.the-variants.{Read, Bad}
+use Rattle.schema.specs.Schema.{declared}
+use Rattle.schema.specs.Did.{Did}
+use Rattle.set.specs.Lists.{Result, refuse, next, onRows, append, appendAll, addTo, replaceIn}
+use Rattle.set.specs.Calls.{answerOf, memoryOf, onSet, opened, added, replaced}
+use Rattle.set.specs.Steps.{Drafted, IsDraft, Ended}
+use Rattle.set.proofs.Places.{is-good, is-long, is-count}
+use Rattle.set.proofs.Appends.{ended-no, ended-done, ended-as}
+use Rattle.set.proofs.Rests.{told-no, told-done, Stepped, stepped}
+use Rattle.set.proofs.Drafts.{read-not, Written, written, is-draft}
+
+-- what a public call promises, of what its parts did
+pub both : {m m′ : List ℕ} {r : Answer} {x : Result} → Ended m m′ r x → (r ≡ answerOf x) × (m′ ≡ memoryOf m x)
+both d = (d .answer, d .memory)
+
+-- ---- open
+
+module _ (m : List ℕ) where
+  pub open-not : (length m ≡ layoutLength → ⊥) → {r : Answer} → r ≡ Refused (record { why = NotWellFormed; place = 0; at = 0 }) → (r ≡ answerOf (opened m)) × (m ≡ memoryOf m (opened m))
+  unfolding opened
+  open-not h g = rw g (both (ended-no m _ (rw (ne-eqb (length m) layoutLength h))))
+
+  pub open-done : length m ≡ layoutLength → {c : Counts} {m′ : List ℕ} → c ≡ noCounts → m′ ≡ zeros (length m) → (Done c ≡ answerOf (opened m)) × (m′ ≡ memoryOf m (opened m))
+  unfolding opened setCounts flat texts
+  open-done h p q = both (ended-done m [] (rw (eq-eqb (length m) layoutLength h)) p (q ∙ ap zeros h ∙ sym encode-none))
+
+-- ---- a set
+
+module _ (m : List ℕ) (place : ℕ) (change : List (List Row) → Result) where
+  set-not : wellFormed m ≡ false → onSet m place change ≡ refuse NotWellFormed place 0
+  unfolding onSet
+  set-not w = rw w
+
+  set-well : wellFormed m ≡ true → onSet m place change ≡ change (decode m)
+  unfolding onSet
+  set-well w = rw w
+
+-- ---- add
+
+module _ (m t : List ℕ) where
+  pub add-not : wellFormed m ≡ false → {r : Answer} → r ≡ Refused (record { why = NotWellFormed; place = 0; at = 0 }) → (r ≡ answerOf (added m t)) × (m ≡ memoryOf m (added m t))
+  unfolding added
+  add-not w g = rw g (both (ended-no m _ (set-not m 0 (λ ds. addTo ds t) w)))
+
+  module _ (w : wellFormed m ≡ true) (n : ℕ) (e : n ≡ countIn m) where
+    count-is : n ≡ length (decode m)
+    count-is = e ∙ is-count m w
+
+    pub add-many : declarationLimit ≤ n → {r : Answer} → r ≡ Refused (record { why = TooManyDeclarations; place = declarationLimit; at = 0 }) → (r ≡ answerOf (added m t)) × (m ≡ memoryOf m (added m t))
+    unfolding added addTo
+    add-many h g = rw g (both (ended-no m _ (set-well m 0 (λ ds. addTo ds t) w ∙ rw (← count-is, le-ltb n declarationLimit h))))
+
+    module _ (l : n < declarationLimit) where
+      add-is : added m t ≡ onRows (declared t) n (append (decode m))
+      unfolding added addTo
+      add-is = set-well m 0 (λ ds. addTo ds t) w ∙ rw (← count-is, lt-ltb n declarationLimit l)
+
+      module _ (z : ℕ) (d : List ℕ) (walked : Walked) (long : z ≡ layoutLength) (did : Did (zeros z) noCounts d walked (declared t)) (same : length d ≡ layoutLength) where
+        pub add-bad : {f : Fault} → walked ≡ Bad f → {r : Refusal} → r ≡ placed f n → (Refused r ≡ answerOf (added m t)) × (m ≡ memoryOf m (added m t))
+        add-bad h g = rw g (both (ended-no m _ (add-is ∙ rw (read-not t z d walked long did same h))))
+
+        pub add-asks : (c : Counts) → walked ≡ Read c → (wellFormed m ≡ true) × (countIn m < declarationLimit) × IsDraft d 0 (c .rows) (c .«string_bytes»)
+        add-asks c h = (w, omega arith, is-draft t z d walked long did same c h)
+
+        pub add-rows : (c : Counts) → walked ≡ Read c → {r : Answer} {m′ : List ℕ}
+            → ((rows : List Row) → Drafted d 0 (c .rows) (c .«string_bytes») rows → Ended m m′ r (append (decode m) rows))
+            → (r ≡ answerOf (added m t)) × (m′ ≡ memoryOf m (added m t))
+        add-rows c h end =
+            let x : Written t z d walked long did same c = written t z d walked long did same c h in
+            both (ended-as (add-is ∙ rw (x .is)) (end (x .rows) (x .drafted)))
+
+-- ---- replace, its text being read
+
+stored : (m o : List ℕ) → length m ≡ length o → store m 0 o ≡ o
+stored m o e =
+    let k : 0 + length o ≤ length m = omega arith in
+    let l : length m ≤ 0 + length o = omega arith in
+    store-fits m 0 o k ∙ ap (λ (x : List ℕ). o ++ x) (drop-of-length-le m l) ∙ append-nil o
+
+-- out holds the declarations of m before the place
+module _ (m : List ℕ) (w : wellFormed m ≡ true) (place : ℕ) (l : place < countIn m) (out : List ℕ) (b : out ≡ encode (take place (decode m))) where
+  before-good : Good (take place (decode m))
+  before-good = cut-good (decode m) place (is-good m w)
+
+  pub before-well : wellFormed out ≡ true
+  before-well = ap wellFormed b ∙ encode-good (take place (decode m)) before-good
+
+  before-decode : decode out ≡ take place (decode m)
+  before-decode = ap decode b ∙ decode-encode (take place (decode m)) (good-within (take place (decode m)) before-good)
+
+  before-count : countIn out ≡ place
+  before-count = ap countIn b ∙ count-encode (take place (decode m)) (good-within (take place (decode m)) before-good) ∙ length-take place (decode m) ∙ omega (arith, is-count m w)
+
+  before-few : countIn out < declarationLimit
+  before-few = omega (arith, before-count, is-count m w, is-good m w .few)
+
+  -- n and bytes stand for the rows in a draft
+  module _ (draft : List ℕ) (n bytes : ℕ) where
+    pub draft-asks : IsDraft draft 0 n bytes → (wellFormed out ≡ true) × (countIn out < declarationLimit) × IsDraft draft 0 n bytes
+    draft-asks d = (before-well, before-few, d)
+
+    module _ (a : Answer) (out₁ : List ℕ) (did : (rows : List Row) → Drafted draft 0 n bytes rows → Ended out out₁ a (append (decode out) rows)) where
+      opens : (rows : List Row) → appendAll (take place (decode m)) (rows ∷ drop (place + 1) (decode m)) ≡ next (append (decode out) rows) (λ longer. appendAll longer (drop (place + 1) (decode m)))
+      unfolding appendAll
+      opens rows = rw before-decode
+
+      pub replace-first : (r : Refusal) → a ≡ Refused r → (rows : List Row) → Drafted draft 0 n bytes rows
+          → Ended m m (Refused r) (appendAll (take place (decode m)) (rows ∷ drop (place + 1) (decode m)))
+      replace-first r g rows d = ended-no m r (opens rows ∙ rw (told-no (append (decode out) rows) (did rows d .answer) g))
+
+      module _ (c : Counts) (g : a ≡ Done c) where
+        step : (rows : List Row) → Drafted draft 0 n bytes rows → Stepped out rows out₁
+        step rows d = stepped before-well before-few (d .kept) (did rows d) g
+
+        pub behind-asks : IsDraft draft 0 n bytes → (wellFormed out₁ ≡ true) × (wellFormed m ≡ true) × (countIn out₁ ≡ place + 1) × (place + 1 ≤ countIn m)
+        behind-asks d =
+            let s : Stepped out (d .rows) out₁ = step (d .rows) (d .drafted) in
+            (s .well, w, s .more ∙ ap (λ (i : ℕ). i + 1) before-count, omega arith)
+
+        behind : (rows : List Row) → Drafted draft 0 n bytes rows → appendAll (take place (decode m)) (rows ∷ drop (place + 1) (decode m)) ≡ appendAll (decode out₁) (drop (place + 1) (decode m))
+        behind rows d = opens rows ∙ rw (step rows d .ok)
+
+        module _ (y : Answer) (out₂ : List ℕ) (rest : Ended out₂ out₂ y (appendAll (decode out₁) (drop (place + 1) (decode m)))) where
+          pub replace-later : (r : Refusal) → y ≡ Refused r → (rows : List Row) → Drafted draft 0 n bytes rows
+              → Ended m m (Refused r) (appendAll (take place (decode m)) (rows ∷ drop (place + 1) (decode m)))
+          replace-later r h rows d = ended-no m r (behind rows d ∙ told-no (appendAll (decode out₁) (drop (place + 1) (decode m))) (rest .answer) h)
+
+          pub replace-done : (k : Counts) → y ≡ Done k → length out₂ ≡ layoutLength → (m′ : List ℕ) → m′ ≡ store m 0 out₂ → (rows : List Row) → Drafted draft 0 n bytes rows
+              → Ended m m′ (Done k) (appendAll (take place (decode m)) (rows ∷ drop (place + 1) (decode m)))
+          unfolding memoryOf
+          replace-done k h long m′ p rows d =
+              let t = told-done (appendAll (decode out₁) (drop (place + 1) (decode m))) (rest .answer) h in
+              ended-done m (t .0) (behind rows d ∙ t .1) (t .2) (p ∙ stored m out₂ (is-long m w ∙ sym long) ∙ rest .memory ∙ ap (memoryOf out₂) (t .1))
+
+-- ---- replace
+
+module _ (m : List ℕ) (place : ℕ) (t : List ℕ) where
+  pub replace-not : wellFormed m ≡ false → {r : Answer} → r ≡ Refused (record { why = NotWellFormed; place = place; at = 0 }) → (r ≡ answerOf (replaced m place t)) × (m ≡ memoryOf m (replaced m place t))
+  unfolding replaced
+  replace-not w g = rw g (both (ended-no m _ (set-not m place (λ ds. replaceIn ds place t) w)))
+
+  module _ (w : wellFormed m ≡ true) (n : ℕ) (e : n ≡ countIn m) where
+    pub replace-place : n ≤ place → {r : Answer} → r ≡ Refused (record { why = NoSuchPlace; place = place; at = 0 }) → (r ≡ answerOf (replaced m place t)) × (m ≡ memoryOf m (replaced m place t))
+    unfolding replaced replaceIn
+    replace-place h g = rw g (both (ended-no m _ (set-well m place (λ ds. replaceIn ds place t) w ∙ rw (← is-count m w, ← e, le-ltb place n h))))
+
+    module _ (l : place < n) where
+      replace-is : replaced m place t ≡ onRows (declared t) place (λ rows. appendAll (take place (decode m)) (rows ∷ drop (place + 1) (decode m)))
+      unfolding replaced replaceIn
+      replace-is = set-well m place (λ ds. replaceIn ds place t) w ∙ rw (← is-count m w, ← e, lt-ltb place n l)
+
+      module _ (z : ℕ) (d : List ℕ) (walked : Walked) (long : z ≡ layoutLength) (did : Did (zeros z) noCounts d walked (declared t)) (same : length d ≡ layoutLength) where
+        pub replace-bad : {f : Fault} → walked ≡ Bad f → {r : Refusal} → r ≡ placed f place → (Refused r ≡ answerOf (replaced m place t)) × (m ≡ memoryOf m (replaced m place t))
+        replace-bad h g = rw g (both (ended-no m _ (replace-is ∙ rw (read-not t z d walked long did same h))))
+
+        pub replace-asks : (c : Counts) → walked ≡ Read c → (wellFormed m ≡ true) × (place < countIn m) × IsDraft d 0 (c .rows) (c .«string_bytes»)
+        replace-asks c h = (w, omega arith, is-draft t z d walked long did same c h)
+
+        pub replace-rows : (c : Counts) → walked ≡ Read c → {r : Answer} {m′ : List ℕ}
+            → ((rows : List Row) → Drafted d 0 (c .rows) (c .«string_bytes») rows → Ended m m′ r (appendAll (take place (decode m)) (rows ∷ drop (place + 1) (decode m))))
+            → (r ≡ answerOf (replaced m place t)) × (m′ ≡ memoryOf m (replaced m place t))
+        replace-rows c h end =
+            let x : Written t z d walked long did same c = written t z d walked long did same c h in
+            both (ended-as (replace-is ∙ rw (x .is)) (end (x .rows) (x .drafted)))

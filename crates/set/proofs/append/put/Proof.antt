@@ -1,0 +1,28 @@
+-- `set::append::put` meets its contract.
+-- Assumes nothing.
+use Rattle.set.proofs.Appends.{puts}
+use borrow.Author.Needs.{needs}
+use Rattle.set.proofs.append.put.Statement.{statement}
+use Rattle.set.proofs.append.put.Tie as tie
+
+push-rows-requires : tie.Need-push-rows-requires
+push-rows-requires c κs = search needs
+
+declare-requires : tie.Need-declare-requires
+declare-requires c κs = search needs
+
+add-new : tie.Need-add-new
+add-new c = search needs
+
+new-requires : tie.Need-new-requires
+new-requires c κs = search needs
+
+same-length : tie.Need-same-length
+same-length c = search needs
+
+returns : tie.Need-returns
+returns c =
+    puts _ _ _ _ _ (c .before .before .before .before .before .before .before .push-rows .ensures .0) (c .before .before .before .before .before .before .before .push-rows .ensures .1) (c .before .before .before .declare .ensures) (c .new .ensures)
+
+pub put-spec : {M : Type 1} → statement M
+put-spec = tie.close (tie.spec push-rows-requires declare-requires add-new new-requires same-length returns)

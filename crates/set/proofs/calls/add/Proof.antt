@@ -1,0 +1,94 @@
+-- `set::calls::add` meets its contract.
+-- Assumes nothing.
+use mathlib.Core.Path.{refl, sym, _∙_}
+use Rattle.set.proofs.Places.{is-long}
+use Rattle.set.proofs.CallLaws.{add-not, add-many, add-asks, add-bad, add-rows}
+use borrow.Author.Needs.{needs}
+use borrow.Author.Tests.{not-true, not-false}
+use Rattle.set.proofs.calls.add.Statement.{statement}
+use Rattle.set.proofs.calls.add.Tie as tie
+
+well-formed-requires : tie.Need-well-formed-requires
+well-formed-requires c κs = search needs
+
+refused-requires : tie.Need-refused-requires
+refused-requires c κs = search needs
+
+same-length : tie.Need-same-length
+same-length c = search needs
+
+returns : tie.Need-returns
+returns c = add-not _ _ (sym (c .before .before .well-formed .ensures) ∙ not-true _ (c .before .if1 .taken)) (c .refused .ensures)
+
+declarations-requires : tie.Need-declarations-requires
+declarations-requires c κs = is-long _ (sym (c .before .before .well-formed .ensures) ∙ not-false _ (c .before .if1 .left))
+
+refused-requires-2 : tie.Need-refused-requires-2
+refused-requires-2 c κs = search needs
+
+same-length-2 : tie.Need-same-length-2
+same-length-2 c = search needs
+
+returns-2 : tie.Need-returns-2
+returns-2 c =
+    add-many _ _ (sym (c .before .before .before .before .before .well-formed .ensures) ∙ not-false _ (c .before .before .before .before .if1 .left)) _ (c .before .before .declarations .ensures) (c .before .if2 .taken) (c .refused2 .ensures)
+
+slice-aggregate-declare : tie.Need-slice-aggregate-declare
+slice-aggregate-declare c = search needs
+
+declare-requires : tie.Need-declare-requires
+declare-requires c κs = search needs
+
+enum-known-read : tie.Need-enum-known-read
+enum-known-read c = search needs
+
+placed-requires : tie.Need-placed-requires
+placed-requires c κs = search needs
+
+enum-known-read-2 : tie.Need-enum-known-read-2
+enum-known-read-2 c = search needs
+
+slice-aggregate-append : tie.Need-slice-aggregate-append
+slice-aggregate-append c = search needs
+
+append-requires : tie.Need-append-requires
+append-requires c κs =
+    add-asks _ _ (sym (c .before .before .before .before .before .before .before .before .before .before .before .before .well-formed .ensures) ∙ not-false _ (c .before .before .before .before .before .before .before .before .before .before .before .if1 .left)) _ (c .before .before .before .before .before .before .before .before .before .declarations .ensures) (c .before .before .before .before .before .before .before .before .if2 .left) _ _ _ refl (c .before .before .before .before .before .before .declare .ensures) (c .before .before .before .before .before .before .declare .kept .1 .0) _ (c .before .before .before .read2 .given .1)
+
+same-length-3 : tie.Need-same-length-3
+same-length-3 c = search needs
+
+returns-3 : tie.Need-returns-3
+returns-3 c =
+    add-bad _ _ (sym (c .before .before .before .before .before .before .before .before .before .before .before .well-formed .ensures) ∙ not-false _ (c .before .before .before .before .before .before .before .before .before .before .if1 .left)) _ (c .before .before .before .before .before .before .before .before .declarations .ensures) (c .before .before .before .before .before .before .before .if2 .left) _ _ _ refl (c .before .before .before .before .before .declare .ensures) (c .before .before .before .before .before .declare .kept .1 .0) (c .before .before .read .given .1) (c .placed .ensures)
+
+same-length-4 : tie.Need-same-length-4
+same-length-4 c = search needs
+
+returns-4 : tie.Need-returns-4
+returns-4 c =
+    add-rows _ _ (sym (c .before .before .before .before .before .before .before .before .before .before .before .before .before .before .before .well-formed .ensures) ∙ not-false _ (c .before .before .before .before .before .before .before .before .before .before .before .before .before .before .if1 .left)) _ (c .before .before .before .before .before .before .before .before .before .before .before .before .declarations .ensures) (c .before .before .before .before .before .before .before .before .before .before .before .if2 .left) _ _ _ refl (c .before .before .before .before .before .before .before .before .before .declare .ensures) (c .before .before .before .before .before .before .before .before .before .declare .kept .1 .0) _ (c .before .before .before .before .before .before .read2 .given .1) (c .before .before .append .ensures)
+
+pub add-spec : {M : Type 1} → statement M
+add-spec =
+    tie.close
+    (tie.spec
+    well-formed-requires
+    refused-requires
+    same-length
+    returns
+    declarations-requires
+    refused-requires-2
+    same-length-2
+    returns-2
+    slice-aggregate-declare
+    declare-requires
+    enum-known-read
+    placed-requires
+    enum-known-read-2
+    slice-aggregate-append
+    append-requires
+    same-length-3
+    returns-3
+    same-length-4
+    returns-4)

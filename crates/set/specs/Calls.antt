@@ -1,0 +1,40 @@
+-- What each call answers, and what the memory holds afterwards.
+-- Assumes nothing.
+use Prim.Native.Nat.{ℕ}
+use mathlib.Core.Bool.{cond}
+use mathlib.Core.List.{List, []}
+use lib.Dec.{eqb}
+use lib.ListN.{length}
+use Rattle.answer.specs.declared.Answer.{Answer}
+use Rattle.answer.specs.declared.Answer.the-variants.{Done, Refused}
+use Rattle.answer.specs.declared.refusal.Why.the-variants.{NotWellFormed}
+use Rattle.row.specs.Layout.{layoutLength}
+use Rattle.row.specs.Rows.{Row}
+use Rattle.row.specs.Sets.{encode, decode}
+use Rattle.row.specs.Memory.{setCounts}
+use Rattle.resolve.specs.WellFormed.{wellFormed}
+use Rattle.set.specs.Lists.{Result, becomes, refuses, refuse, addTo, replaceIn}
+
+-- an accepted call answers the set's three counts
+unfoldable pub answerOf : Result → Answer
+answerOf (becomes ds) = Done (setCounts ds)
+answerOf (refuses r) = Refused r
+
+-- a refusal leaves every byte as it was
+unfoldable pub memoryOf : List ℕ → Result → List ℕ
+memoryOf m (becomes ds) = encode ds
+memoryOf m (refuses r) = m
+
+-- what becomes of the set that m holds; 20 has the place that was asked for
+unfoldable pub onSet : List ℕ → ℕ → (List (List Row) → Result) → Result
+onSet m place change = cond (wellFormed m) (change (decode m)) (refuse NotWellFormed place 0)
+
+-- open clears memory of the layout's length, whatever it held
+unfoldable pub opened : List ℕ → Result
+opened m = cond (eqb (length m) layoutLength) (becomes []) (refuse NotWellFormed 0 0)
+
+unfoldable pub added : List ℕ → List ℕ → Result
+added m text = onSet m 0 (λ ds. addTo ds text)
+
+unfoldable pub replaced : List ℕ → ℕ → List ℕ → Result
+replaced m place text = onSet m place (λ ds. replaceIn ds place text)

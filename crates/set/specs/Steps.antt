@@ -1,0 +1,42 @@
+-- What private functions ask and promise.
+-- Assumes nothing.
+use Prim.Native.Nat.{ℕ, _+_, _≤_, min}
+use mathlib.Core.Path.{_≡_}
+use mathlib.Core.Bool.{true}
+use mathlib.Core.List.{List}
+use lib.ListN.{length}
+use Rattle.answer.specs.declared.Answer.{Answer}
+use Rattle.answer.specs.declared.counts.Counts.{Counts}
+use Rattle.answer.specs.Limits.{countsOf}
+use Rattle.row.specs.Layout.{rowLimit, stringLimit, layoutLength}
+use Rattle.row.specs.Rows.{Row, texts}
+use Rattle.row.specs.Sets.{rowsFrom}
+use Rattle.row.specs.Memory.{most, countedAll, pushedAll, declared}
+use Rattle.resolve.specs.Rules.{isDeclaration}
+use Rattle.set.specs.Lists.{Result}
+use Rattle.set.specs.Calls.{answerOf, memoryOf}
+
+-- rows behind those that are counted, as one declaration more: the counts, and the memory
+unfoldable pub countedMore : Counts → List Row → Counts
+countedMore c rows = countsOf (c .declarations + 1) (countedAll c rows .rows) (countedAll c rows .«string_bytes»)
+
+unfoldable pub putMore : List ℕ → Counts → List Row → List ℕ
+putMore m c rows = declared (pushedAll m c rows) (c .declarations) (length rows)
+
+-- the numbers n and bytes, and where these are within the limits the memory from row `start` on, stand for the rows of a declaration
+pub record Drafted («from» : List ℕ) (start n bytes : ℕ) (rows : List Row) : Type 0 where
+  pub counted : n ≡ min (length rows) most
+  pub strings : bytes ≡ min (length (texts rows)) most
+  pub kept : isDeclaration rows ≡ true
+  pub long : length «from» ≡ layoutLength
+  pub fits : n ≤ rowLimit → bytes ≤ stringLimit → (start + n ≤ rowLimit) × (rowsFrom «from» n start ≡ rows)
+
+-- they stand for some
+pub record IsDraft («from» : List ℕ) (start n bytes : ℕ) : Type 0 where
+  pub rows : List Row
+  pub drafted : Drafted «from» start n bytes rows
+
+-- memory that held m holds m′, and the answer is r: what became of the set is x
+pub record Ended (m m′ : List ℕ) (r : Answer) (x : Result) : Type 0 where
+  pub answer : r ≡ answerOf x
+  pub memory : m′ ≡ memoryOf m x

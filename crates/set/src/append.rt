@@ -1,0 +1,66 @@
+// One declaration more: the one operation that changes a set.
+use answer::Answer;
+use answer::Counts;
+use answer::Refusal;
+use answer::Why;
+use resolve::Resolution;
+use resolve::first_fault;
+use row::read::counts;
+use row::write::declare;
+use row::write::push_rows;
+ghost use mathlib.Core.Path.{_≡_};
+ghost use mathlib.Core.Bool.{true};
+ghost use mathlib.Core.List.{List};
+ghost use Prim.Native.Nat.{_+_, _≤_, _<_};
+ghost use lib.ListN.{length};
+ghost use Rattle.answer.specs.declared.Answer.the-variants.{Refused};
+ghost use Rattle.row.specs.Layout.{declarationLimit, rowLimit, layoutLength};
+ghost use Rattle.row.specs.Rows.{Row};
+ghost use Rattle.row.specs.Sets.{countIn, rowsFrom, decode};
+ghost use Rattle.resolve.specs.WellFormed.{wellFormed};
+ghost use Rattle.set.specs.Lists.{append};
+ghost use Rattle.set.specs.Steps.{countedMore, putMore, Drafted, IsDraft, Ended};
+
+// A refusal that has no byte position.
+pub(crate) fn refused(why: Why, place: usize) -> Answer
+    ensures { λ r. ⌜ r ≡ Refused (record { why = why; place = place; at = 0 }) ⌝ }
+{
+    Answer::Refused(Refusal {
+        why: why,
+        place: place,
+        at: 0,
+    })
+}
+
+// The n rows of `from` from row `start` on, written behind those that are counted, as one declaration more.
+pub(crate) fn put(mem: &mut [u8], counts: Counts, from: &[u8], start: usize, n: usize) -> Counts
+    requires { ⌜ (counts .declarations < declarationLimit) × (length (now «from») ≡ layoutLength) × (start + n ≤ rowLimit) ⌝ }
+    ensures { λ r. ⌜ (r ≡ countedMore counts (rowsFrom (now («from» .entry)) n start))
+        × (now (mem .exit) ≡ putMore (now (mem .entry)) counts (rowsFrom (now («from» .entry)) n start)) ⌝ }
+{
+    let place = counts.declarations;
+    let sum = push_rows(mem, counts, from, start, n);
+    declare(mem, place, n);
+    Counts::new(place + 1, sum.rows, sum.string_bytes)
+}
+
+// One declaration more, for whose rows n, `bytes` and the memory `from` stand; or 23 to 26, and all is as it was.
+pub(crate) fn append(mem: &mut [u8], from: &[u8], start: usize, n: usize, bytes: usize) -> Answer
+    requires { ⌜ (wellFormed (now mem) ≡ true) × (countIn (now mem) < declarationLimit) × IsDraft (now «from») start n bytes ⌝ }
+    ensures { λ r. ⌜ ((rows : List Row) → Drafted (now («from» .entry)) start n bytes rows
+        → Ended (now (mem .entry)) (now (mem .exit)) r (append (decode (now (mem .entry))) rows)) ⌝ }
+{
+    let sum = counts(mem);
+    let place = sum.declarations;
+    if Counts::ROWS - sum.rows < n {
+        return refused(Why::TooManyRows, place);
+    }
+    if Counts::STRING_BYTES - sum.string_bytes < bytes {
+        return refused(Why::TooManyStringBytes, place);
+    }
+    let names = first_fault(mem, sum.rows, from, start, n);
+    match names {
+        Resolution::Faulty(f) => Answer::Refused(f.placed(place)),
+        Resolution::Resolved => Answer::Done(put(mem, sum, from, start, n)),
+    }
+}

@@ -1,0 +1,141 @@
+// The calls that change a set.
+use crate::append::append;
+use crate::append::put;
+use crate::append::refused;
+use answer::Answer;
+use answer::Counts;
+use answer::Why;
+use ground::copy;
+use resolve::well_formed;
+use row::Layout;
+use row::read::counts;
+use row::read::declarations;
+use row::read::rows_before;
+use row::read::rows_of;
+use row::read::strings_before;
+use row::write::clear;
+use schema::Walked;
+use schema::declare;
+ghost use mathlib.Core.Path.{_≡_};
+ghost use mathlib.Core.Bool.{true};
+ghost use mathlib.Core.List.{List, _∷_};
+ghost use Prim.Native.Nat.{_+_, _≤_, _<_};
+ghost use lib.ListN.{take, drop};
+ghost use Rattle.row.specs.Layout.{layoutLength};
+ghost use Rattle.row.specs.Rows.{Row};
+ghost use Rattle.row.specs.Sets.{zeros, countIn, encode, decode};
+ghost use Rattle.resolve.specs.WellFormed.{wellFormed};
+ghost use Rattle.set.specs.Lists.{appendAll};
+ghost use Rattle.set.specs.Calls.{answerOf, memoryOf, opened, added, replaced};
+ghost use Rattle.set.specs.Steps.{Drafted, IsDraft, Ended};
+
+// Memory of the layout's length becomes the empty set, whatever it held.
+pub fn open(mem: &mut [u8]) -> Answer
+    ensures { λ r. ⌜ (r ≡ answerOf (opened (now (mem .entry))))
+        × (now (mem .exit) ≡ memoryOf (now (mem .entry)) (opened (now (mem .entry)))) ⌝ }
+{
+    if mem.len() != Layout::LENGTH {
+        return refused(Why::NotWellFormed, 0);
+    }
+    clear(mem);
+    Answer::Done(Counts::none())
+}
+
+// One declaration more, by its text.
+pub fn add(mem: &mut [u8], text: &[u8]) -> Answer
+    ensures { λ r. ⌜ (r ≡ answerOf (added (now (mem .entry)) (now (text .entry))))
+        × (now (mem .exit) ≡ memoryOf (now (mem .entry)) (added (now (mem .entry)) (now (text .entry)))) ⌝ }
+{
+    if !well_formed(mem) {
+        return refused(Why::NotWellFormed, 0);
+    }
+    let place = declarations(mem);
+    if Counts::DECLARATIONS <= place {
+        return refused(Why::TooManyDeclarations, Counts::DECLARATIONS);
+    }
+    let mut draft = [0u8; Layout::LENGTH];
+    let read = declare(text, &mut draft);
+    match read {
+        Walked::Bad(f) => Answer::Refused(f.placed(place)),
+        Walked::Read(c) => append(mem, &draft, 0, c.rows, c.string_bytes),
+    }
+}
+
+// The declarations of a set before a place, into memory that is zero.
+fn copy_before(mem: &[u8], place: usize, out: &mut [u8])
+    requires { ⌜ (wellFormed (now mem) ≡ true) × (place ≤ countIn (now mem)) × (now out ≡ zeros layoutLength) ⌝ }
+    ensures { λ _. ⌜ now (out .exit) ≡ encode (take place (decode (now (mem .entry)))) ⌝ }
+{
+    let mut sum = Counts::none();
+    let mut i = 0;
+    while i < place {
+        let n = rows_of(mem, i);
+        sum = put(out, sum, mem, sum.rows, n);
+        i += 1;
+    }
+}
+
+// The declarations of a set from a place on, appended in turn until one is refused.
+fn append_from(out: &mut [u8], mem: &[u8], place: usize) -> Answer
+    requires { ⌜ (wellFormed (now out) ≡ true) × (wellFormed (now mem) ≡ true) × (countIn (now out) ≡ place) × (place ≤ countIn (now mem)) ⌝ }
+    ensures { λ r. ⌜ Ended (now (out .exit)) (now (out .exit)) r (appendAll (decode (now (out .entry))) (drop place (decode (now (mem .entry))))) ⌝ }
+{
+    let n = declarations(mem);
+    let mut start = rows_before(mem, place);
+    let mut i = place;
+    while i < n {
+        let rows = rows_of(mem, i);
+        let end = start + rows;
+        let bytes = strings_before(mem, end) - strings_before(mem, start);
+        let a = append(out, mem, start, rows, bytes);
+        match a {
+            Answer::Refused(r) => return Answer::Refused(r),
+            Answer::Done(_) => {}
+        }
+        start = end;
+        i += 1;
+    }
+    Answer::Done(counts(out))
+}
+
+// The rows of a draft in place of a declaration: the declarations before it, the draft, those behind it.
+fn replace_by(mem: &mut [u8], place: usize, draft: &[u8], n: usize, bytes: usize) -> Answer
+    requires { ⌜ (wellFormed (now mem) ≡ true) × (place < countIn (now mem)) × IsDraft (now draft) 0 n bytes ⌝ }
+    ensures { λ r. ⌜ ((rows : List Row) → Drafted (now (draft .entry)) 0 n bytes rows
+        → Ended (now (mem .entry)) (now (mem .exit)) r (appendAll (take place (decode (now (mem .entry)))) (rows ∷ drop (place + 1) (decode (now (mem .entry)))))) ⌝ }
+{
+    let mut out = [0u8; Layout::LENGTH];
+    copy_before(mem, place, &mut out);
+    let a = append(&mut out, draft, 0, n, bytes);
+    match a {
+        Answer::Refused(r) => return Answer::Refused(r),
+        Answer::Done(_) => {}
+    }
+    let b = append_from(&mut out, mem, place + 1);
+    match b {
+        Answer::Refused(r) => Answer::Refused(r),
+        Answer::Done(c) => {
+            copy(mem, 0, &out);
+            Answer::Done(c)
+        }
+    }
+}
+
+// Another declaration at a place, by its text.
+pub fn replace(mem: &mut [u8], place: usize, text: &[u8]) -> Answer
+    ensures { λ r. ⌜ (r ≡ answerOf (replaced (now (mem .entry)) place (now (text .entry))))
+        × (now (mem .exit) ≡ memoryOf (now (mem .entry)) (replaced (now (mem .entry)) place (now (text .entry)))) ⌝ }
+{
+    if !well_formed(mem) {
+        return refused(Why::NotWellFormed, place);
+    }
+    if declarations(mem) <= place {
+        return refused(Why::NoSuchPlace, place);
+    }
+    let mut draft = [0u8; Layout::LENGTH];
+    let read = declare(text, &mut draft);
+    match read {
+        Walked::Bad(f) => Answer::Refused(f.placed(place)),
+        Walked::Read(c) => replace_by(mem, place, &draft, c.rows, c.string_bytes),
+    }
+}
