@@ -1,0 +1,64 @@
+-- Canonical text and fingerprint of the declaration at a place of a set's memory.
+-- Assumes nothing.
+use Prim.Native.Nat.{ℕ, zero, suc, _+_}
+use mathlib.Core.Bool.{cond}
+use mathlib.Core.List.{List, [], _∷_}
+use lib.Dec.{leb, ltb}
+use lib.ListN.{length}
+use Rattle.answer.specs.declared.refusal.Why.{Why}
+use Rattle.answer.specs.declared.refusal.Why.the-variants.{NotWellFormed, NoSuchPlace, NoRoom}
+use Rattle.answer.specs.declared.refusal.Refusal.{Refusal}
+use Rattle.ground.specs.Bytes.{store}
+use Rattle.rabin.specs.Rabin.{rabinOf}
+use Rattle.row.specs.Rows.{Row}
+use Rattle.row.specs.Sets.{decode}
+use Rattle.resolve.specs.WellFormed.{wellFormed}
+use Rattle.canonical.specs.Canonical.{canonicalOf}
+use Rattle.canonical.specs.declared.answers.Written.{Written}
+use Rattle.canonical.specs.declared.answers.Written.the-variants as text
+use Rattle.canonical.specs.declared.answers.Print.{Print}
+use Rattle.canonical.specs.declared.answers.Print.the-variants as print
+
+-- the canonical text at a place, or a refusal
+pub data Found : Type 0 where
+  found : List ℕ → Found
+  refused : Refusal → Found
+
+abbrev pub refusal : Why → ℕ → ℕ → Refusal
+refusal why place at = record { why = why; place = place; at = at }
+
+unfoldable pub rowsAt : List (List Row) → ℕ → List Row
+rowsAt [] place = []
+rowsAt (d ∷ ds) zero = d
+rowsAt (d ∷ ds) (suc place) = rowsAt ds place
+
+-- 20, then 21
+unfoldable pub textAt : List ℕ → ℕ → Found
+textAt m place =
+    cond (wellFormed m)
+    (cond (ltb place (length (decode m))) (found (canonicalOf (rowsAt (decode m) place))) (refused (refusal NoSuchPlace place 0)))
+    (refused (refusal NotWellFormed place 0))
+
+-- 29: an offset past the end leaves too little room for any text, for none is empty
+abbrev pub inRoom : Found → ℕ → ℕ → ℕ → Found
+inRoom (found s) place offset room = cond (leb (offset + length s) room) (found s) (refused (refusal NoRoom place (length s)))
+inRoom (refused r) place offset room = refused r
+
+-- the canonical text into a buffer of `room` bytes from an offset on
+unfoldable pub writtenAt : List ℕ → ℕ → ℕ → ℕ → Found
+writtenAt m place offset room = inRoom (textAt m place) place offset room
+
+-- ---- what is answered
+
+unfoldable pub lengthOf : Found → Written
+lengthOf (found s) = text.Length (length s)
+lengthOf (refused r) = text.Refused r
+
+-- all bytes but those of the text stay
+unfoldable pub bufferAfter : Found → List ℕ → ℕ → List ℕ
+bufferAfter (found s) buffer offset = store buffer offset s
+bufferAfter (refused r) buffer offset = buffer
+
+unfoldable pub printOf : Found → Print
+printOf (found s) = print.Fingerprint (rabinOf s)
+printOf (refused r) = print.Refused r

@@ -1,0 +1,3 @@
+pub mod Nesting
+pub mod Plain
+pub mod Digits
