@@ -1,0 +1,25 @@
+-- `dhokyurai::dhokyurai_fingerprint` meets its contract.
+-- Assumes nothing.
+use mathlib.Core.Path.{ap, _∙_}
+use Rattle.dhokyurai.specs.Numbers.{ofPrint, printed}
+use Rattle.dhokyurai.proofs.Laws.{number, first, second}
+use borrow.Author.Needs.{needs, sfits-of}
+use mir.Facts.{toZ-ofZ}
+use Rattle.dhokyurai.proofs.dhokyurai_fingerprint.Statement.{statement}
+use Rattle.dhokyurai.proofs.dhokyurai_fingerprint.Tie as tie
+
+fingerprint-requires : tie.Need-fingerprint-requires
+fingerprint-requires c κs = search needs
+
+value-requires : tie.Need-value-requires
+value-requires c κs = search needs
+
+of-print-requires : tie.Need-of-print-requires
+of-print-requires c κs = search needs
+
+returns : tie.Need-returns
+returns c = let e = c .of-print .ensures ∙ ap ofPrint (c .before .before .fingerprint .ensures) in (number e, toZ-ofZ (sfits-of (c .before .value .ok)) ∙ c .before .value .ensures ∙ ap printed (c .before .before .fingerprint .ensures), first e, second e)
+
+pub dhokyurai-fingerprint-spec : {M : Type 1} → statement M
+dhokyurai-fingerprint-spec =
+    tie.close (tie.spec fingerprint-requires value-requires of-print-requires returns)
