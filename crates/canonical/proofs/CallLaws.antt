@@ -1,10 +1,10 @@
 -- The declaration at a place of well-formed memory, and the three calls.
 -- Assumes nothing.
 use mathlib.Core.Path.{_≡_, refl, sym, ap, ap₂, _∙_}
-use mathlib.Core.Bool.{Bool, true, false, cond, _&&_}
+use mathlib.Core.Bool.{Bool, true, false, cond}
 use mathlib.Core.List.{List, [], _∷_, _++_}
-use Prim.Native.Nat.{ℕ, zero, suc, _+_, _-_, _*_, _<_, _≤_}
-use native.Mathlib.Nat.{sub-zero, zero-add}
+use Prim.Native.Nat.{ℕ, zero, suc, _+_, _-_, _<_, _≤_}
+use native.Mathlib.Nat.{sub-zero}
 use native.Mathlib.Decide.{decLe}
 use native.Mathlib.Omega.{arith}
 use lib.Dec.{leb, ltb}
@@ -12,13 +12,12 @@ use lib.ListN.{length, take, drop, getD, length-append, take-append-drop}
 use lib.Seq.{drop-cons, length-take-le, take-at}
 use lib.IntN.{ℤ}
 use borrow.Rule.Slice.PartMut.{midOf, putMid}
-use borrow.Author.Tests.{ltb-true, lt-ltb, le-ltb, le-leb, lt-leb, leb-true, leb-false}
+use borrow.Author.Tests.{ltb-true, lt-ltb, le-ltb, le-leb, lt-leb, leb-true}
 use Rattle.answer.specs.declared.refusal.Why.the-variants.{NotWellFormed, NoSuchPlace, NoRoom}
 use Rattle.answer.specs.declared.refusal.Refusal.{Refusal}
-use Rattle.ground.specs.Bytes.{store}
-use Rattle.ground.proofs.Laws.{never, and-true, length-store, store-fits}
+use Rattle.ground.proofs.Laws.{never, and-true, store-fits}
 use Rattle.name.specs.Name.{every}
-use Rattle.row.specs.Layout.{declarationLimit, rowLimit, stringLimit, layoutLength}
+use Rattle.row.specs.Layout.{declarationLimit, rowLimit, layoutLength}
 use Rattle.row.specs.Rows.{Row, texts}
 use Rattle.row.specs.Sets.{flat, encode, decode, countIn, rowsFrom, Within}
 use Rattle.row.specs.Memory.{sizeAt, rowsBefore}
@@ -27,11 +26,9 @@ use Rattle.row.proofs.SetLaws.{flat-append}
 use Rattle.row.proofs.Laws.{length-encode, count-encode, before-encode, size-encode, declaration-encode}
 use Rattle.resolve.specs.Rules.{isDeclaration}
 use Rattle.resolve.specs.WellFormed.{Good, wellFormed}
-use Rattle.resolve.proofs.MemoryLaws.{length-rows}
 use Rattle.resolve.proofs.Laws.{exact, good-within, every-append}
 use Rattle.canonical.specs.Canonical.{textOf, canonicalOf}
 use Rattle.canonical.specs.Calls.{Found, found, refused, refusal, rowsAt, textAt, writtenAt, lengthOf, bufferAfter, printOf}
-use Rattle.canonical.specs.declared.answers.Written.{Written}
 use Rattle.canonical.specs.declared.answers.Written.the-variants.{Length, Refused}
 use Rattle.canonical.specs.declared.answers.Print.the-variants.{Fingerprint, Refused as NoPrint}
 use Rattle.canonical.specs.Wrote.{Wrote}

@@ -1,6 +1,11 @@
+-- `Laws` is what callers cite; the others are what the proofs here use.
+pub mod Laws
 mod DecimalLaws
 mod WriteLaws
 mod PieceLaws
+mod TextLaws
 mod WalkLaws
 mod CallLaws
-pub mod TextLaws
+mod FuelLaws
+mod SameLaws
+mod PrintLaws

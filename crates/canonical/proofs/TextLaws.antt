@@ -1,14 +1,13 @@
 -- How long a text is, that it needs no more rows than stand under its first one, and no more fuel than there are rows.
 -- Assumes nothing.
-use mathlib.Core.Path.{_≡_, refl, sym, ap, ap₂, _∙_}
+use mathlib.Core.Path.{_≡_, refl, ap}
 use mathlib.Core.Bool.{Bool, true, false, cond, _&&_}
 use mathlib.Core.List.{List, [], _∷_, _++_, map}
-use Prim.Native.Nat.{ℕ, zero, suc, _+_, _-_, _*_, _<_, _≤_}
+use Prim.Native.Nat.{ℕ, zero, suc, _+_, _-_, _*_, _≤_}
 use native.Mathlib.Omega.{arith}
-use native.Mathlib.Decide.{decLt}
 use lib.Dec.{eqb, ltb}
 use lib.ListN.{length, length-append}
-use borrow.Author.Tests.{lt-ltb, le-ltb, ne-eqb, ltb-true, ltb-false, eqb-true}
+use borrow.Author.Tests.{le-ltb, ltb-true, ltb-false, eqb-true}
 use Rattle.ground.specs.Ascii.{ascii}
 use Rattle.ground.proofs.Laws.{and-true}
 use Rattle.row.specs.Rows.{Row, texts}
@@ -17,7 +16,7 @@ use Rattle.row.specs.declared.kind.Kind.the-variants.{Null, Boolean, Int, Long,
 use Rattle.resolve.specs.Rules.{under}
 use Rattle.canonical.specs.Decimal.{decimal}
 use Rattle.canonical.specs.Pieces.{opening, closing}
-use Rattle.canonical.specs.Canonical.{isWritten, startsAt, partsOf, listed, textOf, canonicalOf}
+use Rattle.canonical.specs.Canonical.{isWritten, startsAt, partsOf, listed, textOf}
 use Rattle.canonical.proofs.DecimalLaws.{decimal-short}
 
 -- ---- one row

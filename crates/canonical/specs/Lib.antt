@@ -4,3 +4,4 @@ pub mod Canonical
 pub mod Calls
 pub mod Wrote
 pub mod Walk
+pub mod Claims

@@ -110,15 +110,8 @@ pub(crate) fn write_piece(mem: &[u8], i: usize, end: usize, left: usize, part: &
     let kind = e.kind;
     let at = opening(kind, string_of(mem, i), e.size, part);
     let from = least(at, part.len());
-    let to = at
-        + write_parts(
-            mem,
-            i + 1,
-            end,
-            e.depth as usize,
-            left - 1,
-            &mut part[from..],
-        );
+    let depth = e.depth as usize;
+    let to = at + write_parts(mem, i + 1, end, depth, left - 1, &mut part[from..]);
     let last = least(to, part.len());
     to + closing(kind, &mut part[last..])
 }

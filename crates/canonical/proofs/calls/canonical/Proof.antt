@@ -1,71 +1,54 @@
-use Rattle.canonical.proofs.CallLaws.{length-told, canonical-refused, canonical-full, canonical-room, canonical-written}
-use Rattle.canonical.specs.declared.answers.Written.the-variants.{Refused}
-use borrow.Author.Tests.{not-true, not-false}
+-- `canonical::calls::canonical` meets its contract: what the length says, 29, the text.
+-- Assumes nothing.
 use mathlib.Core.Path.{sym, ap, _∙_}
+use borrow.Author.Tests.{not-true, not-false}
 use borrow.Author.Needs.{needs}
+use Rattle.canonical.specs.declared.answers.Written.the-variants.{Refused}
+use Rattle.canonical.proofs.CallLaws.{length-told, canonical-refused, canonical-full, canonical-room, canonical-written}
 use Rattle.canonical.proofs.calls.canonical.Statement.{statement}
 use Rattle.canonical.proofs.calls.canonical.Tie as tie
-use Rattle.canonical.proofs.calls.canonical.Reads as reads
-use Rattle.canonical.proofs.calls.canonical.Lts as lts
-use Rattle.canonical.proofs.calls.canonical_length.Reads as canonical-length-reads
-use Rattle.canonical.proofs.calls.has_room.Reads as has-room-reads
-use Rattle.canonical.proofs.calls.refusal.Reads as refusal-reads
-use Rattle.canonical.proofs.calls.write_declaration.Reads as write-declaration-reads
 
--- src/calls.rt:67:11
 canonical-length-requires : tie.Need-canonical-length-requires
 canonical-length-requires c κs = search needs
 
--- src/calls.rt:68:26
 enum-known-r : tie.Need-enum-known-r
 enum-known-r c = search needs
 
--- src/calls.rt:69:25
 enum-known-n : tie.Need-enum-known-n
 enum-known-n c = search needs
 
--- src/calls.rt:70:17
 has-room-requires : tie.Need-has-room-requires
 has-room-requires c κs = search needs
 
--- src/calls.rt:71:41
 refusal-requires : tie.Need-refusal-requires
 refusal-requires c κs = search needs
 
--- src/calls.rt:71:17
 returns : tie.Need-returns
 returns c =
     let t = canonical-full _ _ _ _ _ (sym (c .before .before .before .before .n .given .1) ∙ c .before .before .before .before .before .before .canonical-length .ensures) (sym (c .before .before .has-room .ensures) ∙ not-true _ (c .before .if1 .taken)) in (ap Refused (c .refusal .ensures) ∙ t .0, t .1)
 
--- src/calls.rt:73:43
 sub-write-declaration : tie.Need-sub-write-declaration
 sub-write-declaration c =
     canonical-room _ _ _ (c .before .before .before .before .before .before .before .before .args .buffer .now) _ (sym (c .before .before .before .n .given .1) ∙ c .before .before .before .before .before .canonical-length .ensures) (sym (c .before .has-room .ensures) ∙ not-false _ (c .if1 .left))
 
--- src/calls.rt:73:43
 part-write-declaration-start : tie.Need-part-write-declaration-start
 part-write-declaration-start c =
     canonical-room _ _ _ (c .before .before .before .before .before .before .before .before .args .buffer .now) _ (sym (c .before .before .before .n .given .1) ∙ c .before .before .before .before .before .canonical-length .ensures) (sym (c .before .has-room .ensures) ∙ not-false _ (c .if1 .left))
 
--- src/calls.rt:73:43
 part-write-declaration-end : tie.Need-part-write-declaration-end
 part-write-declaration-end c = search needs
 
--- src/calls.rt:73:13
 write-declaration-requires : tie.Need-write-declaration-requires
 write-declaration-requires c κs =
     let t = length-told _ _ _ (sym (c .before .before .before .before .n .given .1) ∙ c .before .before .before .before .before .before .canonical-length .ensures) in (t .0, t .1)
 
--- src/calls.rt:63:1
 returns-2 : tie.Need-returns-2
 returns-2 c =
     canonical-refused _ _ _ _ _ (sym (c .before .r .given .1) ∙ c .before .before .before .canonical-length .ensures)
 
--- src/calls.rt:63:1
 same-length : tie.Need-same-length
 same-length c = search needs
 
--- src/calls.rt:63:1
 returns-3 : tie.Need-returns-3
 returns-3 c =
     canonical-written _ _ _ _ _ (sym (c .before .before .before .before .before .before .before .n .given .1) ∙ c .before .before .before .before .before .before .before .before .before .canonical-length .ensures) (sym (c .before .before .before .before .before .has-room .ensures) ∙ not-false _ (c .before .before .before .before .if1 .left)) _ _ (c .before .before .write-declaration .ensures)

@@ -1,53 +1,40 @@
-use Rattle.canonical.proofs.CallLaws.{formed-long, length-broken, length-absent, place-counted, length-found}
-use Rattle.canonical.specs.declared.answers.Written.the-variants.{Refused}
-use borrow.Author.Tests.{not-true, not-false}
+-- `canonical::calls::canonical_length` meets its contract: 20, 21, the length.
+-- Assumes nothing.
 use mathlib.Core.Path.{sym, ap, _∙_}
+use borrow.Author.Tests.{not-true, not-false}
 use borrow.Author.Needs.{needs}
+use Rattle.canonical.specs.declared.answers.Written.the-variants.{Refused}
+use Rattle.canonical.proofs.CallLaws.{formed-long, length-broken, length-absent, place-counted, length-found}
 use Rattle.canonical.proofs.calls.canonical_length.Statement.{statement}
 use Rattle.canonical.proofs.calls.canonical_length.Tie as tie
-use Rattle.canonical.proofs.calls.canonical_length.Reads as reads
-use Rattle.canonical.proofs.calls.canonical_length.Lts as lts
-use Rattle.canonical.proofs.calls.refusal.Reads as refusal-reads
-use Rattle.canonical.proofs.calls.write_declaration.Reads as write-declaration-reads
-use Rattle.resolve.proofs.well_formed.Reads as well-formed-reads
-use Rattle.row.proofs.read.declarations.Reads as declarations-reads
 
--- src/calls.rt:42:9
 well-formed-requires : tie.Need-well-formed-requires
 well-formed-requires c κs = search needs
 
--- src/calls.rt:43:33
 refusal-requires : tie.Need-refusal-requires
 refusal-requires c κs = search needs
 
--- src/calls.rt:43:9
 returns : tie.Need-returns
 returns c =
     ap Refused (c .refusal .ensures) ∙ length-broken _ _ (sym (c .before .before .well-formed .ensures) ∙ not-true _ (c .before .if1 .taken))
 
--- src/calls.rt:45:8
 declarations-requires : tie.Need-declarations-requires
 declarations-requires c κs = formed-long _ (sym (c .before .well-formed .ensures) ∙ not-false _ (c .if1 .left))
 
--- src/calls.rt:46:33
 refusal-requires-2 : tie.Need-refusal-requires-2
 refusal-requires-2 c κs = search needs
 
--- src/calls.rt:46:9
 returns-2 : tie.Need-returns-2
 returns-2 c =
     ap Refused (c .refusal2 .ensures) ∙ length-absent _ _ (sym (c .before .before .before .before .well-formed .ensures) ∙ not-false _ (c .before .before .before .if1 .left)) _ (c .before .before .declarations .ensures) (c .before .if2 .taken)
 
--- src/calls.rt:49:51
 slice-aggregate-write-declaration : tie.Need-slice-aggregate-write-declaration
 slice-aggregate-write-declaration c = search needs
 
--- src/calls.rt:49:21
 write-declaration-requires : tie.Need-write-declaration-requires
 write-declaration-requires c κs =
     ((sym (c .before .before .before .before .well-formed .ensures) ∙ not-false _ (c .before .before .before .if1 .left)), place-counted _ _ (sym (c .before .before .before .before .well-formed .ensures) ∙ not-false _ (c .before .before .before .if1 .left)) _ (c .before .before .declarations .ensures) (c .before .if2 .left))
 
--- src/calls.rt:39:1
 returns-3 : tie.Need-returns-3
 returns-3 c =
     length-found _ _ (sym (c .before .before .before .before .before .before .well-formed .ensures) ∙ not-false _ (c .before .before .before .before .before .if1 .left)) (place-counted _ _ (sym (c .before .before .before .before .before .before .well-formed .ensures) ∙ not-false _ (c .before .before .before .before .before .if1 .left)) _ (c .before .before .before .before .declarations .ensures) (c .before .before .before .if2 .left)) _ (c .before .write-declaration .ensures .end)

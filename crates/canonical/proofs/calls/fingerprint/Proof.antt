@@ -1,70 +1,54 @@
+-- `canonical::calls::fingerprint` meets its contract: what the length says, and the text in front of the buffer.
+-- Assumes nothing.
+use mathlib.Core.Path.{sym, ap, _∙_}
 use Prim.Native.Nat.{ℕ}
-use Rattle.canonical.proofs.WriteLaws.{wrote-length}
+use native.Mathlib.Omega.{arith}
+use lib.ListN.{length-replicate}
+use mir.Facts.{toZ-ofZ}
+use borrow.Author.Needs.{sfits-of, needs}
 use Rattle.canonical.specs.Walk.{textLimit}
 use Rattle.canonical.specs.declared.answers.Print.the-variants.{Fingerprint}
-use lib.ListN.{length-replicate}
-use borrow.Author.Needs.{sfits-of}
-use mir.Facts.{toZ-ofZ}
+use Rattle.canonical.proofs.WriteLaws.{wrote-length}
 use Rattle.canonical.proofs.CallLaws.{length-told, print-refused, print-fits, print-found}
-use mathlib.Core.Path.{sym, ap, _∙_}
-use native.Mathlib.Omega.{arith}
-use borrow.Author.Needs.{needs}
 use Rattle.canonical.proofs.calls.fingerprint.Statement.{statement}
 use Rattle.canonical.proofs.calls.fingerprint.Tie as tie
-use Rattle.canonical.proofs.calls.fingerprint.Reads as reads
-use Rattle.canonical.proofs.calls.fingerprint.Lts as lts
-use Rattle.canonical.proofs.calls.canonical_length.Reads as canonical-length-reads
-use Rattle.canonical.proofs.calls.write_declaration.Reads as write-declaration-reads
-use Rattle.rabin.proofs.fingerprint.Reads as fingerprint-reads
 
--- src/calls.rt:83:11
 canonical-length-requires : tie.Need-canonical-length-requires
 canonical-length-requires c κs = search needs
 
--- src/calls.rt:84:26
 enum-known-r : tie.Need-enum-known-r
 enum-known-r c = search needs
 
--- src/calls.rt:85:25
 enum-known-n : tie.Need-enum-known-n
 enum-known-n c = search needs
 
--- src/calls.rt:87:43
 slice-aggregate-write-declaration : tie.Need-slice-aggregate-write-declaration
 slice-aggregate-write-declaration c = search needs
 
--- src/calls.rt:87:13
 write-declaration-requires : tie.Need-write-declaration-requires
 write-declaration-requires c κs =
     let t = length-told _ _ _ (sym (c .before .before .n .given .1) ∙ c .before .before .before .before .canonical-length .ensures) in (t .0, t .1)
 
--- src/calls.rt:88:17
 slice-aggregate-all : tie.Need-slice-aggregate-all
 slice-aggregate-all c = search needs
 
--- src/calls.rt:89:51
 sub-fingerprint : tie.Need-sub-fingerprint
 sub-fingerprint c = search needs
 
--- src/calls.rt:89:51
 part-fingerprint-start : tie.Need-part-fingerprint-start
 part-fingerprint-start c = search needs
 
--- src/calls.rt:89:51
 part-fingerprint-end : tie.Need-part-fingerprint-end
 part-fingerprint-end c =
     omega (arith, print-fits _ _ _ (sym (c .before .before .before .before .before .n .given .1) ∙ c .before .before .before .before .before .before .before .canonical-length .ensures), wrote-length (c .before .before .write-declaration .ensures), length-replicate {A = ℕ} textLimit 0)
 
--- src/calls.rt:89:32
 fingerprint-requires : tie.Need-fingerprint-requires
 fingerprint-requires c κs = search needs
 
--- src/calls.rt:80:1
 returns : tie.Need-returns
 returns c =
     print-refused _ _ _ (sym (c .before .r .given .1) ∙ c .before .before .before .canonical-length .ensures)
 
--- src/calls.rt:80:1
 returns-2 : tie.Need-returns-2
 returns-2 c =
     ap Fingerprint (toZ-ofZ (sfits-of (c .fingerprint .ok))) ∙ print-found _ _ _ (sym (c .before .before .before .before .before .before .before .n .given .1) ∙ c .before .before .before .before .before .before .before .before .before .canonical-length .ensures) _ _ _ (length-replicate {A = ℕ} textLimit 0) (c .before .before .before .before .write-declaration .ensures) _ (c .fingerprint .ensures)

@@ -1,15 +1,17 @@
-use borrow.Author.Needs.{needs}
-use native.Mathlib.Omega.{arith}
-use Rattle.canonical.proofs.DecimalLaws.{one-digit, tenth-length, some-digits, last-digit}
+-- `canonical::decimal::write_digits` meets its contract: the last digit behind those of a tenth.
+-- Assumes nothing.
 use Prim.Native.Nat.{ℕ, _<_}
+use native.Mathlib.Omega.{arith}
+use borrow.Author.Needs.{needs}
 use borrow.Fn.Kinds.{In}
 use borrow.Fn.PlainCycle.{Measures, is, falls, and}
+use Rattle.canonical.proofs.DecimalLaws.{one-digit, tenth-length, some-digits, last-digit}
+use Rattle.canonical.proofs.decimal.+write_digits.{statement}
+use Rattle.canonical.proofs.decimal.+write_digits.Tie.{close}
 use Rattle.canonical.proofs.decimal.write_digits.Reads as write-digits
 use Rattle.canonical.proofs.decimal.write_digits.Kinds as write-digits-kinds
 use Rattle.canonical.proofs.decimal.+write_digits.Lts-write_digits as write-digits-lts
 use Rattle.ground.proofs.copy.Reads as copy-reads
-use Rattle.canonical.proofs.decimal.+write_digits.{statement}
-use Rattle.canonical.proofs.decimal.+write_digits.Tie.{close}
 
 abbrev μ-write-digits : Measures 1 write-digits-kinds.ps ℕ
 μ-write-digits κs a = a .0

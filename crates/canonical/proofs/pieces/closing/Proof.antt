@@ -1,71 +1,56 @@
-use Rattle.canonical.specs.Pieces.{closing}
+-- `canonical::pieces::closing` meets its contract: each arm writes its kinds' text.
+-- Assumes nothing.
 use mathlib.Core.Path.{sym, ap}
+use borrow.Author.Needs.{needs}
+use Rattle.canonical.specs.Pieces.{closing}
 use Rattle.canonical.proofs.PieceLaws.{closing-brace, closing-both, closing-none}
 use Rattle.canonical.proofs.WriteLaws.{wrote-none, wrote-eq}
-use borrow.Author.Needs.{needs}
 use Rattle.canonical.proofs.pieces.closing.Statement.{statement}
 use Rattle.canonical.proofs.pieces.closing.Tie as tie
-use Rattle.canonical.proofs.pieces.closing.Reads as reads
-use Rattle.canonical.proofs.pieces.closing.Lts as lts
-use Rattle.canonical.proofs.pieces.put.Reads as put-reads
 
--- src/pieces.rt:100:77
 slice-aggregate-put : tie.Need-slice-aggregate-put
 slice-aggregate-put c = search needs
 
--- src/pieces.rt:100:64
 put-requires : tie.Need-put-requires
 put-requires c κs = search needs
 
--- src/pieces.rt:101:28
 enum-told : tie.Need-enum-told
 enum-told c = search needs
 
--- src/pieces.rt:101:37
 slice-aggregate-put-2 : tie.Need-slice-aggregate-put-2
 slice-aggregate-put-2 c = search needs
 
--- src/pieces.rt:101:24
 put-requires-2 : tie.Need-put-requires-2
 put-requires-2 c κs = search needs
 
--- src/pieces.rt:102:51
 slice-aggregate-put-3 : tie.Need-slice-aggregate-put-3
 slice-aggregate-put-3 c = search needs
 
--- src/pieces.rt:102:38
 put-requires-3 : tie.Need-put-requires-3
 put-requires-3 c κs = search needs
 
--- src/pieces.rt:96:1
 same-length : tie.Need-same-length
 same-length c = search needs
 
--- src/pieces.rt:96:1
 returns : tie.Need-returns
 returns c =
     wrote-eq (closing-brace _ (c .before .before .before .before .before .match .keys1)) (c .before .before .put .ensures)
 
--- src/pieces.rt:96:1
 same-length-2 : tie.Need-same-length-2
 same-length-2 c = search needs
 
--- src/pieces.rt:96:1
 returns-2 : tie.Need-returns-2
 unfolding closing
 returns-2 c =
     wrote-eq (sym (ap closing (c .before .before .before .before .before .enum-told .given .1))) (c .before .before .put2 .ensures)
 
--- src/pieces.rt:96:1
 same-length-3 : tie.Need-same-length-3
 same-length-3 c = search needs
 
--- src/pieces.rt:96:1
 returns-3 : tie.Need-returns-3
 returns-3 c =
     wrote-eq (closing-both _ (c .before .before .before .before .before .match .keys3)) (c .before .before .put3 .ensures)
 
--- src/pieces.rt:96:1
 returns-4 : tie.Need-returns-4
 returns-4 c = wrote-eq (closing-none _ (c .match .keys4)) (wrote-none _ _)
 

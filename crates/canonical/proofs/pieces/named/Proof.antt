@@ -1,40 +1,31 @@
-use Rattle.canonical.proofs.WriteLaws.{wrote-then}
+-- `canonical::pieces::named` meets its contract: four texts one behind the other.
+-- Assumes nothing.
 use borrow.Author.Needs.{needs}
+use Rattle.canonical.proofs.WriteLaws.{wrote-then}
 use Rattle.canonical.proofs.pieces.named.Statement.{statement}
 use Rattle.canonical.proofs.pieces.named.Tie as tie
-use Rattle.canonical.proofs.pieces.named.Reads as reads
-use Rattle.canonical.proofs.pieces.named.Lts as lts
-use Rattle.canonical.proofs.pieces.put.Reads as put-reads
 
--- src/pieces.rt:43:26
 slice-aggregate-put : tie.Need-slice-aggregate-put
 slice-aggregate-put c = search needs
 
--- src/pieces.rt:43:9
 put-requires : tie.Need-put-requires
 put-requires c κs = search needs
 
--- src/pieces.rt:44:9
 put-requires-2 : tie.Need-put-requires-2
 put-requires-2 c κs = search needs
 
--- src/pieces.rt:45:26
 slice-aggregate-put-2 : tie.Need-slice-aggregate-put-2
 slice-aggregate-put-2 c = search needs
 
--- src/pieces.rt:45:9
 put-requires-3 : tie.Need-put-requires-3
 put-requires-3 c κs = search needs
 
--- src/pieces.rt:46:5
 put-requires-4 : tie.Need-put-requires-4
 put-requires-4 c κs = search needs
 
--- src/pieces.rt:39:1
 same-length : tie.Need-same-length
 same-length c = search needs
 
--- src/pieces.rt:39:1
 returns : tie.Need-returns
 returns c =
     wrote-then (c .before .before .before .before .before .before .before .before .before .before .before .before .before .before .before .put .ensures) (wrote-then (wrote-then (c .before .before .before .before .before .before .before .before .before .before .before .put2 .ensures) (c .before .before .before .before .before .before .put3 .ensures)) (c .before .before .put4 .ensures))

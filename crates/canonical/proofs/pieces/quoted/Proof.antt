@@ -1,36 +1,28 @@
-use Rattle.canonical.proofs.WriteLaws.{wrote-then}
+-- `canonical::pieces::quoted` meets its contract: three texts one behind the other.
+-- Assumes nothing.
 use borrow.Author.Needs.{needs}
+use Rattle.canonical.proofs.WriteLaws.{wrote-then}
 use Rattle.canonical.proofs.pieces.quoted.Statement.{statement}
 use Rattle.canonical.proofs.pieces.quoted.Tie as tie
-use Rattle.canonical.proofs.pieces.quoted.Reads as reads
-use Rattle.canonical.proofs.pieces.quoted.Lts as lts
-use Rattle.canonical.proofs.pieces.put.Reads as put-reads
 
--- src/pieces.rt:33:26
 slice-aggregate-put : tie.Need-slice-aggregate-put
 slice-aggregate-put c = search needs
 
--- src/pieces.rt:33:9
 put-requires : tie.Need-put-requires
 put-requires c κs = search needs
 
--- src/pieces.rt:34:9
 put-requires-2 : tie.Need-put-requires-2
 put-requires-2 c κs = search needs
 
--- src/pieces.rt:35:18
 slice-aggregate-put-2 : tie.Need-slice-aggregate-put-2
 slice-aggregate-put-2 c = search needs
 
--- src/pieces.rt:35:5
 put-requires-3 : tie.Need-put-requires-3
 put-requires-3 c κs = search needs
 
--- src/pieces.rt:29:1
 same-length : tie.Need-same-length
 same-length c = search needs
 
--- src/pieces.rt:29:1
 returns : tie.Need-returns
 returns c =
     wrote-then (c .before .before .before .before .before .before .before .before .before .before .before .put .ensures) (wrote-then (c .before .before .before .before .before .before .before .put2 .ensures) (c .before .before .put3 .ensures))

@@ -1,193 +1,151 @@
+-- `canonical::pieces::word` meets its contract: each arm writes its kind's word.
+-- Assumes nothing.
+use mathlib.Core.Path.{sym, ap}
+use borrow.Author.Needs.{needs}
 use Rattle.resolve.specs.Kinds.{isKind, isPrimitive}
 use Rattle.canonical.specs.Walk.{wordOf}
 use Rattle.canonical.specs.Pieces.{opening}
-use mathlib.Core.Path.{sym, ap}
 use Rattle.canonical.proofs.PieceLaws.{word-none}
 use Rattle.canonical.proofs.WriteLaws.{wrote-none, wrote-eq}
-use borrow.Author.Needs.{needs}
 use Rattle.canonical.proofs.pieces.word.Statement.{statement}
 use Rattle.canonical.proofs.pieces.word.Tie as tie
-use Rattle.canonical.proofs.pieces.word.Reads as reads
-use Rattle.canonical.proofs.pieces.word.Lts as lts
-use Rattle.canonical.proofs.pieces.put.Reads as put-reads
 
--- src/pieces.rt:64:27
 enum-told : tie.Need-enum-told
 enum-told c = search needs
 
--- src/pieces.rt:64:36
 slice-aggregate-put : tie.Need-slice-aggregate-put
 slice-aggregate-put c = search needs
 
--- src/pieces.rt:64:23
 put-requires : tie.Need-put-requires
 put-requires c κs = search needs
 
--- src/pieces.rt:65:30
 enum-told-2 : tie.Need-enum-told-2
 enum-told-2 c = search needs
 
--- src/pieces.rt:65:39
 slice-aggregate-put-2 : tie.Need-slice-aggregate-put-2
 slice-aggregate-put-2 c = search needs
 
--- src/pieces.rt:65:26
 put-requires-2 : tie.Need-put-requires-2
 put-requires-2 c κs = search needs
 
--- src/pieces.rt:66:26
 enum-told-3 : tie.Need-enum-told-3
 enum-told-3 c = search needs
 
--- src/pieces.rt:66:35
 slice-aggregate-put-3 : tie.Need-slice-aggregate-put-3
 slice-aggregate-put-3 c = search needs
 
--- src/pieces.rt:66:22
 put-requires-3 : tie.Need-put-requires-3
 put-requires-3 c κs = search needs
 
--- src/pieces.rt:67:27
 enum-told-4 : tie.Need-enum-told-4
 enum-told-4 c = search needs
 
--- src/pieces.rt:67:36
 slice-aggregate-put-4 : tie.Need-slice-aggregate-put-4
 slice-aggregate-put-4 c = search needs
 
--- src/pieces.rt:67:23
 put-requires-4 : tie.Need-put-requires-4
 put-requires-4 c κs = search needs
 
--- src/pieces.rt:68:28
 enum-told-5 : tie.Need-enum-told-5
 enum-told-5 c = search needs
 
--- src/pieces.rt:68:37
 slice-aggregate-put-5 : tie.Need-slice-aggregate-put-5
 slice-aggregate-put-5 c = search needs
 
--- src/pieces.rt:68:24
 put-requires-5 : tie.Need-put-requires-5
 put-requires-5 c κs = search needs
 
--- src/pieces.rt:69:29
 enum-told-6 : tie.Need-enum-told-6
 enum-told-6 c = search needs
 
--- src/pieces.rt:69:38
 slice-aggregate-put-6 : tie.Need-slice-aggregate-put-6
 slice-aggregate-put-6 c = search needs
 
--- src/pieces.rt:69:25
 put-requires-6 : tie.Need-put-requires-6
 put-requires-6 c κs = search needs
 
--- src/pieces.rt:70:28
 enum-told-7 : tie.Need-enum-told-7
 enum-told-7 c = search needs
 
--- src/pieces.rt:70:37
 slice-aggregate-put-7 : tie.Need-slice-aggregate-put-7
 slice-aggregate-put-7 c = search needs
 
--- src/pieces.rt:70:24
 put-requires-7 : tie.Need-put-requires-7
 put-requires-7 c κs = search needs
 
--- src/pieces.rt:71:29
 enum-told-8 : tie.Need-enum-told-8
 enum-told-8 c = search needs
 
--- src/pieces.rt:71:38
 slice-aggregate-put-8 : tie.Need-slice-aggregate-put-8
 slice-aggregate-put-8 c = search needs
 
--- src/pieces.rt:71:25
 put-requires-8 : tie.Need-put-requires-8
 put-requires-8 c κs = search needs
 
--- src/pieces.rt:60:1
 same-length : tie.Need-same-length
 same-length c = search needs
 
--- src/pieces.rt:60:1
 returns : tie.Need-returns
 unfolding wordOf isPrimitive isKind opening
 returns c =
     wrote-eq (sym (ap wordOf (c .before .before .before .before .before .enum-told .given .1))) (c .before .before .put .ensures)
 
--- src/pieces.rt:60:1
 same-length-2 : tie.Need-same-length-2
 same-length-2 c = search needs
 
--- src/pieces.rt:60:1
 returns-2 : tie.Need-returns-2
 unfolding wordOf isPrimitive isKind opening
 returns-2 c =
     wrote-eq (sym (ap wordOf (c .before .before .before .before .before .enum-told2 .given .1))) (c .before .before .put2 .ensures)
 
--- src/pieces.rt:60:1
 same-length-3 : tie.Need-same-length-3
 same-length-3 c = search needs
 
--- src/pieces.rt:60:1
 returns-3 : tie.Need-returns-3
 unfolding wordOf isPrimitive isKind opening
 returns-3 c =
     wrote-eq (sym (ap wordOf (c .before .before .before .before .before .enum-told3 .given .1))) (c .before .before .put3 .ensures)
 
--- src/pieces.rt:60:1
 same-length-4 : tie.Need-same-length-4
 same-length-4 c = search needs
 
--- src/pieces.rt:60:1
 returns-4 : tie.Need-returns-4
 unfolding wordOf isPrimitive isKind opening
 returns-4 c =
     wrote-eq (sym (ap wordOf (c .before .before .before .before .before .enum-told4 .given .1))) (c .before .before .put4 .ensures)
 
--- src/pieces.rt:60:1
 same-length-5 : tie.Need-same-length-5
 same-length-5 c = search needs
 
--- src/pieces.rt:60:1
 returns-5 : tie.Need-returns-5
 unfolding wordOf isPrimitive isKind opening
 returns-5 c =
     wrote-eq (sym (ap wordOf (c .before .before .before .before .before .enum-told5 .given .1))) (c .before .before .put5 .ensures)
 
--- src/pieces.rt:60:1
 same-length-6 : tie.Need-same-length-6
 same-length-6 c = search needs
 
--- src/pieces.rt:60:1
 returns-6 : tie.Need-returns-6
 unfolding wordOf isPrimitive isKind opening
 returns-6 c =
     wrote-eq (sym (ap wordOf (c .before .before .before .before .before .enum-told6 .given .1))) (c .before .before .put6 .ensures)
 
--- src/pieces.rt:60:1
 same-length-7 : tie.Need-same-length-7
 same-length-7 c = search needs
 
--- src/pieces.rt:60:1
 returns-7 : tie.Need-returns-7
 unfolding wordOf isPrimitive isKind opening
 returns-7 c =
     wrote-eq (sym (ap wordOf (c .before .before .before .before .before .enum-told7 .given .1))) (c .before .before .put7 .ensures)
 
--- src/pieces.rt:60:1
 same-length-8 : tie.Need-same-length-8
 same-length-8 c = search needs
 
--- src/pieces.rt:60:1
 returns-8 : tie.Need-returns-8
 unfolding wordOf isPrimitive isKind opening
 returns-8 c =
     wrote-eq (sym (ap wordOf (c .before .before .before .before .before .enum-told8 .given .1))) (c .before .before .put8 .ensures)
 
--- src/pieces.rt:60:1
 returns-9 : tie.Need-returns-9
 returns-9 c = wrote-eq (word-none _ (c .match .keys9)) (wrote-none _ _)
 

@@ -1,17 +1,19 @@
-use lib.ListN.{length}
-use Prim.Native.Nat.{_+_, _*_, _-_}
-use mathlib.Core.Path.{sym, ap, _∙_}
+-- `canonical::text`'s `write_parts` and `write_piece` meet their contracts: of the texts of the parts, what is written so far and what is left; and a row's three pieces one behind the other.
+-- Assumes nothing.
+use mathlib.Core.Path.{sym, _∙_}
 use mathlib.Core.Bool.{true}
 use mathlib.Core.Logic.{⊎-elim}
+use Prim.Native.Nat.{_+_, _*_, _-_, ℕ, _<_}
 use native.Mathlib.Omega.{arith}
 use borrow.Author.Needs.{needs}
+use borrow.Fn.Kinds.{In}
+use borrow.Fn.PlainCycle.{Measures, is, falls, and}
 use Rattle.canonical.specs.Walk.{partsText}
 use Rattle.canonical.proofs.PieceLaws.{opening-name, name-fits}
 use Rattle.canonical.proofs.WalkLaws.{over, over-start, over-end, under-before, turn-fits, turn-skip, turn-part, text-none, text-some, pieces-fit}
-use Rattle.canonical.proofs.WriteLaws.{wrote-none, wrote-eq, wrote-then, wrote-lent, wrote-length, Sofar, sofar-none, sofar-fits, sofar-length, sofar-end}
-use Prim.Native.Nat.{ℕ, _<_}
-use borrow.Fn.Kinds.{In}
-use borrow.Fn.PlainCycle.{Measures, is, falls, and}
+use Rattle.canonical.proofs.WriteLaws.{wrote-none, wrote-eq, wrote-then, wrote-lent, Sofar, sofar-none, sofar-fits, sofar-length, sofar-end}
+use Rattle.canonical.proofs.text.+write_parts+write_piece.{statement}
+use Rattle.canonical.proofs.text.+write_parts+write_piece.Tie.{close}
 use Rattle.canonical.proofs.text.write_parts.Reads as write-parts
 use Rattle.canonical.proofs.text.write_parts.Kinds as write-parts-kinds
 use Rattle.canonical.proofs.text.+write_parts+write_piece.Lts-write_parts as write-parts-lts
@@ -26,8 +28,6 @@ use Rattle.canonical.proofs.text.is_part.Reads as is-part-reads
 use Rattle.canonical.proofs.text.is_under.Reads as is-under-reads
 use Rattle.row.proofs.read.read_row.Reads as read-row-reads
 use Rattle.row.proofs.read.string_of.Reads as string-of-reads
-use Rattle.canonical.proofs.text.+write_parts+write_piece.{statement}
-use Rattle.canonical.proofs.text.+write_parts+write_piece.Tie.{close}
 
 abbrev μ-write-parts : Measures 2 write-parts-kinds.ps ℕ
 μ-write-parts κs a = 2 * a .1 .1 .1 .1 .0 + 1
@@ -134,11 +134,11 @@ write-piece-opening-requires t c κs =
 write-piece-least-requires : (t : ℕ) → write-piece-lts.Need-least-requires (write-piece-calls t) (write-piece-at t) write-piece.Post
 write-piece-least-requires t c κs = search needs
 
+write-piece-cast-depth : (t : ℕ) → write-piece-lts.Need-cast-depth (write-piece-calls t) (write-piece-at t) write-piece.Post
+write-piece-cast-depth t c = search needs
+
 write-piece-add-write-parts : (t : ℕ) → write-piece-lts.Need-add-write-parts (write-piece-calls t) (write-piece-at t) write-piece.Post
 write-piece-add-write-parts t c = search needs
-
-write-piece-cast-write-parts : (t : ℕ) → write-piece-lts.Need-cast-write-parts (write-piece-calls t) (write-piece-at t) write-piece.Post
-write-piece-cast-write-parts t c = search needs
 
 write-piece-sub-write-parts : (t : ℕ) → write-piece-lts.Need-sub-write-parts (write-piece-calls t) (write-piece-at t) write-piece.Post
 write-piece-sub-write-parts t c = search needs
@@ -215,8 +215,8 @@ pub +write-parts+write-piece-spec : {M : Type 1} → statement M
     (write-piece-string-of-requires t)
     (write-piece-opening-requires t)
     (write-piece-least-requires t)
+    (write-piece-cast-depth t)
     (write-piece-add-write-parts t)
-    (write-piece-cast-write-parts t)
     (write-piece-sub-write-parts t)
     (write-piece-sub-write-parts-2 t)
     (write-piece-part-write-parts-start t)

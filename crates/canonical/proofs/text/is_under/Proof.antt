@@ -1,20 +1,16 @@
-use Rattle.canonical.proofs.WalkLaws.{under-past, under-test}
+-- `canonical::text::is_under` meets its contract.
+-- Assumes nothing.
 use borrow.Author.Needs.{needs}
+use Rattle.canonical.proofs.WalkLaws.{under-past, under-test}
 use Rattle.canonical.proofs.text.is_under.Statement.{statement}
 use Rattle.canonical.proofs.text.is_under.Tie as tie
-use Rattle.canonical.proofs.text.is_under.Reads as reads
-use Rattle.canonical.proofs.text.is_under.Lts as lts
-use Rattle.canonical.proofs.text.depth_at.Reads as depth-at-reads
 
--- src/text.rt:47:9
 returns : tie.Need-returns
 returns c = under-past _ _ _ _ (c .if1 .taken)
 
--- src/text.rt:49:13
 depth-at-requires : tie.Need-depth-at-requires
 depth-at-requires c κs = search needs
 
--- src/text.rt:42:1
 returns-2 : tie.Need-returns-2
 returns-2 c = under-test _ _ _ _ (c .before .if1 .left) _ (c .depth-at .ensures .0)
 

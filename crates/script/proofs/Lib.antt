@@ -1,0 +1,5 @@
+pub mod Laws
+mod WordLaws
+mod NumberLaws
+mod HexLaws
+mod LineLaws

@@ -1,0 +1,1158 @@
+#!/usr/bin/env python3
+"""Scripts of calls on a set, and their answers by replay.py.
+
+    python3 docs/vectors/sequences.py crates/sets_run            writes stdin and stdout there
+    python3 docs/vectors/sequences.py --short crates/replay      a script of about sixty lines, for people
+    python3 docs/vectors/sequences.py labels                     each sequence's first line and what it is about
+
+Each sequence starts with `memory 51266`, `fill 0`, `open`. Beside each call stands what it must answer, worked out by hand from
+document 01: the number of a refusal, whose position is marked by ^ in the text at fault, or the counts. Two things are tried of
+every call that changes the set: a refusal leaves the digest as it was; and the memory is the one that adding the same texts to
+an empty set gives. Of a refused replacement it is tried that adding the edited list one by one is refused in the same way.
+"""
+import os
+import random
+import sys
+
+sys.path.insert(0, os.path.dirname(os.path.abspath(__file__)))
+import declaration_texts
+import replay
+from declaration_texts import unmarked
+
+LINES, ANSWERS, SEQUENCES = [], [], []
+
+
+class Now:
+    """The sequence that is being written."""
+    machine = replay.Machine()
+    texts = []     # the texts in the set, None where memory was poked
+    marks = []     # the marked position of each
+    digest = None
+
+
+def say(line):
+    answers = Now.machine.line(line)
+    LINES.append(line)
+    ANSWERS.extend(answers)
+    return answers
+
+
+def ended():
+    """The memory at the end of a sequence: questions have left it alone."""
+    before = Now.digest
+    assert digest() == before or before is None
+
+
+def seq(label):
+    if SEQUENCES:
+        ended()
+    SEQUENCES.append((len(LINES) + 1, label))
+    for line in ("memory 51266", "fill 0"):
+        assert say(line) == ["ok"]
+    assert say("open") == ["ok 0 0 0"]
+    Now.texts, Now.marks, Now.digest = [], [], None
+
+
+def digest():
+    answer = say("digest")
+    Now.digest = answer
+    return answer
+
+
+def from_nothing(texts):
+    """Adding the texts to an empty set: the memory, or the refusal."""
+    m = replay.Machine()
+    for t in texts:
+        answer = m.line("add " + (t.hex() or "-"))
+        if answer[0].startswith("refused"):
+            return answer
+    return bytes(m.memory[:replay.LENGTH])
+
+
+def changed(line, text, want, place, behind):
+    plain, marks = unmarked(text)
+    mark = marks[0] if marks else None
+    if Now.digest is None:
+        digest()
+    before = Now.digest
+    got = say(line + " " + (plain.hex() or "-"))
+    digest()
+    edited = Now.texts[:place] + [plain] + Now.texts[place + 1:]
+    if isinstance(want, int):
+        number = want
+        at = (place if behind is None else behind) if number not in (20, 21, 22) else {20: 0 if line == "add" else place, 21: place, 22: 32}[number]
+        position = 0 if number in (20, 21, 22, 23, 24) else 32768 if number == 1 else mark if behind is None else Now.marks[behind]
+        assert got == ["refused %d %d %d" % (number, at, position)], (SEQUENCES[-1], line, plain[:200], want, got)
+        assert Now.digest == before
+        if number not in (20, 21, 22) and None not in Now.texts:
+            assert from_nothing(edited) == got, (SEQUENCES[-1], from_nothing(edited), got)
+        return
+    assert got[0].startswith("ok"), (SEQUENCES[-1], line, plain[:200], got)
+    assert want is None or got == ["ok %d %d %d" % want], (SEQUENCES[-1], line, plain[:200], want, got)
+    Now.texts, Now.marks = edited, Now.marks[:place] + [mark] + Now.marks[place + 1:]
+    if None not in Now.texts:
+        assert from_nothing(Now.texts) == bytes(Now.machine.memory[:replay.LENGTH])
+
+
+def add(text, want=None):
+    changed("add", text, want, len(Now.texts), None)
+
+
+def swap(place, text, want=None, behind=None):
+    changed("replace %d" % place, text, want, place, behind)
+
+
+def ask(line, want):
+    """A question, and its answer: a refusal's number, or the line."""
+    got = say(line)
+    if isinstance(want, int):
+        place = int(line.split()[1])
+        assert got[0].split()[:3] == ["refused", str(want), str(place)], (SEQUENCES[-1], line, want, got)
+    elif want is not None:
+        assert got[0] == want, (SEQUENCES[-1], line, want, got)
+    return got
+
+
+def name(place, row, want):
+    ask("name %d %d" % (place, row), want if isinstance(want, int) else "ok " + want.encode().hex())
+
+
+def text_of(place, offset, room, want):
+    """The canonical text; want is the text, or 29 with its length, or another number."""
+    line = "canonical %d %d %d" % (place, offset, room)
+    if isinstance(want, tuple):
+        assert say(line) == ["refused 29 %d %d %s" % (place, want[1], "aa" * room or "-")], (SEQUENCES[-1], line)
+    elif isinstance(want, int):
+        assert say(line) == ["refused %d %d 0 %s" % (want, place, "aa" * room or "-")], (SEQUENCES[-1], line)
+    else:
+        b = want.encode()
+        assert say(line) == ["ok %d %s" % (len(b), "aa" * offset + b.hex() + "aa" * (room - offset - len(b)))], (SEQUENCES[-1], line, ANSWERS[-1])
+
+
+def poke(at, data):
+    say("poke %d %s" % (at, data.hex() or "-"))
+    Now.texts, Now.digest = [None] * len(Now.texts), None
+
+
+def full():
+    """Every question about every place."""
+    for place in range(len(Now.texts)):
+        say("rows %d" % place)
+        say("fingerprint %d" % place)
+
+
+# ---- texts
+
+def E(n, more=""):
+    return '{"type":"enum","name":^"%s","symbols":["A","B"]%s}' % (n, more)
+
+
+def F(n, size=4):
+    return '{"type":"fixed","name":^"%s","size":%d}' % (n, size)
+
+
+def R(n, *types):
+    return '{"type":"record","name":^"%s","fields":[%s]}' % (n, ",".join('{"name":"f%d","type":%s}' % (i, t) for i, t in enumerate(types)))
+
+
+def ref(n):
+    return '{"type":"array","items":^"%s"}' % n
+
+
+def plain(t):
+    return t.replace("^", "")
+
+
+def rows(n, count):
+    """A fixed of so many rows; its string bytes are the name's and count - 1."""
+    return '{"type":"fixed","name":^"%s","size":0,"aliases":[%s]}' % (n, ",".join(['"a"'] * (count - 1)))
+
+
+def weight(n, total):
+    """A fixed of so many string bytes, in a namespace of 250 bytes."""
+    left = total - 251 - len(n)
+    k, r = divmod(left, 252)
+    assert left >= 0
+    aliases = ['"a"'] * k + (['".%s"' % ("b" * r)] if r else [])
+    return '{"type":"fixed","name":^"%s","namespace":"~250~","size":0,"aliases":[%s]}' % (n, ",".join(aliases))
+
+
+LISTING = '{"type":"record","name":"R","namespace":"a","fields":[{"name":"x","type":"int"},{"name":"next","type":["null","R"]}]}'
+LISTED = '{"name":"a.R","type":"record","fields":[{"name":"x","type":"int"},{"name":"next","type":["null","a.R"]}]}'
+
+
+def faults(number):
+    """Short texts of one refusal, from the list of declaration_texts."""
+    found = [c for c in declaration_texts.CASES if c.number == number and len(c.text) < 400 and "generated" not in c.label]
+    return [found[i * len(found) // 4] for i in range(4)]
+
+
+def marked(case):
+    t = case.text[:case.position] + b"^" + case.text[case.position:]
+    assert unmarked(t)[0] == case.text
+    return t
+
+
+TOO_LONG = "x" + " " * 32768      # 1 before 2
+
+
+# ---- the empty set, one declaration, 01's listing
+
+def first():
+    seq("the empty set")
+    digest()
+    for line in ("name 0 0", "fingerprint 0", "rows 0"):
+        ask(line, 21)
+    text_of(0, 0, 4, 21)
+    swap(0, '"int"', 21)
+    say("open")
+    digest()
+
+    seq("01's listing")
+    add(LISTING, (1, 7, 11))
+    say("rows 0")
+    name(0, 0, "a.R")
+    name(0, 6, "a.R")
+    for row in (1, 2, 3, 4, 5, 7, 8):
+        name(0, row, 21)
+    text_of(0, 0, 105, LISTED)
+    say("fingerprint 0")
+    assert say("rows 0")[-1] == "end"
+
+    seq("01's listing, its canonical text has the same canonical text")
+    add(LISTED, (1, 7, 11))
+    text_of(0, 0, 105, LISTED)
+    say("fingerprint 0")
+    say("rows 0")
+
+    for p in ("null", "boolean", "int", "long", "float", "double", "bytes", "string"):
+        seq("one primitive " + p)
+        add('{"type":"%s"}' % p, (1, 1, 0))
+        text_of(0, 0, len(p) + 2, '"%s"' % p)
+        say("fingerprint 0")
+        name(0, 0, 21)
+        add('"%s"' % p, (2, 2, 0))
+        full()
+
+    seq("every kind of row by name")
+    add('{"type":"record","name":"a.R","aliases":["S","b.T"],"fields":[{"name":"x","aliases":["y"],"type":{"type":"enum","name":"E","aliases":[".EE"],"symbols":["A"]}},'
+        '{"name":"z","type":{"type":"map","values":{"type":"array","items":["null","E",{"type":"fixed","name":"c.F","aliases":["G"],"size":18446744073709551615},"bytes"]}}}]}', (1, 17, 27))
+    say("rows 0")
+    for row, want in enumerate(["a.R", "a.S", "b.T", 21, 21, "a.E", "EE", 21, 21, 21, 21, 21, 21, "a.E", "c.F", "c.G", 21, 21, 21]):
+        name(0, row, want)
+    for row in (34, 65535, 65536, 4294967296, 18446744073709551615):
+        name(0, row, 21)
+    for place in (1, 2, 31, 32, 65536, 4294967296, 18446744073709551615):
+        name(place, 0, 21)
+        ask("fingerprint %d" % place, 21)
+        ask("rows %d" % place, 21)
+        text_of(place, 0, 0, 21)
+    text_of(0, 0, 300, '{"name":"a.R","type":"record","fields":[{"name":"x","type":{"name":"a.E","type":"enum","symbols":["A"]}},{"name":"z","type":{"type":"map","values":{"type":"array",'
+            '"items":["null","a.E",{"name":"c.F","type":"fixed","size":18446744073709551615},"bytes"]}}}]}')
+    say("fingerprint 0")
+
+
+# ---- each refusal of a text, by add and by replace
+
+def refusals():
+    seq("1 by add")
+    add(F("a.F"), (1, 1, 3))
+    add(TOO_LONG, 1)
+    add("[]", (2, 2, 3))
+    seq("1 by replace")
+    add(F("F"))
+    add(ref("F"))
+    swap(1, TOO_LONG, 1)
+    full()
+    for number in list(range(2, 20)) + [27, 28]:
+        cases = faults(number)
+        seq("%d by add to an empty set" % number)
+        add(marked(cases[0]), number)
+        add('"int"', (1, 1, 0))
+        add(marked(cases[1]), number)
+        seq("%d by add behind two" % number)
+        add(F("F"), (1, 1, 1))
+        add(ref("F"), (2, 3, 2))
+        add(marked(cases[2]), number)
+        full()
+        seq("%d by replace at the first, middle and last place" % number)
+        add(F("F"))
+        add(ref("F"))
+        add('{"type":"map","values":"F"}', (3, 5, 3))
+        for place in (0, 1, 2):
+            swap(place, marked(cases[(place + 1) % 4]), number)
+        swap(3, marked(cases[0]), 21)
+        name(2, 1, "F")
+
+
+# ---- 25 and 26
+
+def names():
+    seq("25 by add")
+    add(F("a.F"))
+    add(F("a.F"), 25)
+    add('{"type":"record","name":^"F","namespace":"a","fields":[]}', 25)
+    add('{"type":"record","name":"R","namespace":"a","fields":[{"name":"f","type":{"type":"enum","name":^"F","symbols":[]}}]}', 25)
+    add(F("F"), (2, 2, 4))
+    add(F("b.F"), (3, 3, 7))
+    full()
+    seq("25 within one declaration")
+    add(R("R", plain(F("x.G")), F("R")).replace("^", "", 1), 25)
+    add(plain(R("R")[:-2]) + '{"name":"f","type":{"type":"record","name":^"R","fields":[]}}]}', 25)
+    add('{"type":"array","items":[{"type":"record","name":"S","fields":[{"name":"f","type":{"type":"enum","name":"T","symbols":[]}}]},{"type":"record","name":^"T","fields":[]}]}', 25)
+    add('{"type":"record","name":"R","namespace":"n","fields":[{"name":"f","type":{"type":"record","name":"R","namespace":"","fields":[{"name":"g","type":"R"}]}},{"name":"h","type":["R","n.S"]}]}'.replace('"n.S"', '^"n.S"'), 26)
+    add('{"type":"record","name":"R","namespace":"n","fields":[{"name":"f","type":{"type":"record","name":"R","namespace":"","fields":[{"name":"g","type":"R"}]}},{"name":"h","type":["R",".R"]}]}', (1, 9, 12))
+    full()
+    seq("25 does not look at aliases")
+    add('{"type":"fixed","name":"F","size":1,"aliases":["G","F","H"]}', (1, 4, 4))
+    add(F("G"), (2, 5, 5))
+    add('{"type":"fixed","name":"H","size":1,"aliases":["G","F"]}', (3, 8, 8))
+    full()
+    seq("26 does not look at aliases")
+    add('{"type":"record","name":"a.R","aliases":["Q"],"fields":[]}', (1, 2, 6))
+    add(ref("a.Q"), 26)
+    add(ref("Q"), 26)
+    add('{"type":"record","name":"a.S","aliases":["Q"],"fields":[{"name":"f","type":^"Q"}]}', 26)
+    add(ref("a.R"), (2, 4, 9))
+    full()
+    seq("26 by add to an empty set")
+    add('^"R"', 26)
+    add('["null",^"a.b.C"]', 26)
+    add('{"type":^"R"}', 26)
+    add('{"type":"map","values":^".R"}', 26)
+    add('"int"', (1, 1, 0))
+    seq("a record that refers to itself")
+    add('{"type":"record","name":"R","fields":[{"name":"f","type":"R"}]}', (1, 3, 3))
+    add('"R"', (2, 4, 4))
+    add('".R"', (3, 5, 5))
+    full()
+    seq("an enclosing record two deep")
+    add('{"type":"record","name":"a.R","fields":[{"name":"f","type":{"type":"record","name":"S","fields":[{"name":"f","type":["null","R","S"]}]}}]}', (1, 8, 14))
+    full()
+    seq("a reference before its definition")
+    add('{"type":"record","name":"R","fields":[{"name":"f","type":^"S"},{"name":"g","type":{"type":"record","name":"S","fields":[]}}]}', 26)
+    add('{"type":"record","name":"R","fields":[{"name":"g","type":{"type":"record","name":"S","fields":[]}},{"name":"f","type":"S"}]}', (1, 5, 5))
+    add('[{"type":"array","items":^"T"},{"type":"fixed","name":"T","size":1}]', 26)
+    add('[{"type":"fixed","name":"T","size":1},{"type":"array","items":"T"}]', (2, 9, 7))
+    full()
+    seq("a reference to a later declaration")
+    add(ref("R"), 26)
+    add(R("R"), (1, 1, 1))
+    add(ref("R"), (2, 3, 2))
+    seq("a reference within a namespace is not looked for outside it")
+    add(F("F"), (1, 1, 1))
+    add('{"type":"record","name":"a.R","fields":[{"name":"f","type":^"F"}]}', 26)
+    add('{"type":"record","name":"a.R","fields":[{"name":"f","type":".F"}]}', (2, 4, 6))
+    full()
+    seq("a reference without a namespace does not find one inside")
+    add(F("a.F"), (1, 1, 3))
+    add(ref("F"), 26)
+    add('{"type":"record","name":"a.R","fields":[{"name":"f","type":"F"}]}', (2, 4, 10))
+    full()
+    seq("a reference to a prefix, and to more")
+    add(F("a.bc"), (1, 1, 4))
+    for r in ("a.b", "a.bcd", "a", "bc", "b.bc", "A.bc", "a.bC", "a.a.bc"):
+        add(ref(r), 26)
+    add(ref("a.bc"), (2, 3, 8))
+    seq("references to reserved words are never known")
+    for r in ("record", "enum", "fixed", ".int", "a.string", ".null"):
+        add(ref(r), 26)
+    add('{"type":"record","name":"R","fields":[{"name":"f","type":^"array","items":"int"}]}', 26)
+    add('{"type":"record","name":"array","fields":[]}', (1, 1, 5))
+    add('{"type":"record","name":"R","fields":[{"name":"f","type":"array","items":"int"}]}', (2, 4, 12))
+    add('{"type":"array","items":"array"}', (3, 6, 17))
+    full()
+    seq("25 before 26 in preorder")
+    add(F("F"))
+    add('[{"type":"fixed","name":^"F","size":1},"G"]', 25)
+    add('{"type":"record","name":"R","fields":[{"name":"f","type":{"type":"fixed","name":^"F","size":1}},{"name":"g","type":"G"}]}', 25)
+    add('{"type":"record","fields":[{"name":"g","type":"G"}],"name":^"F"}', 25)
+    seq("26 before 25 in preorder")
+    add(F("F"))
+    add('[^"G",{"type":"fixed","name":"F","size":1}]', 26)
+    add('{"type":"record","name":"R","fields":[{"name":"g","type":^"G"},{"name":"f","type":{"type":"fixed","name":"F","size":1}}]}', 26)
+    add('{"type":"record","name":"R","fields":[{"type":{"type":"array","items":^"G"},"name":"g"},{"name":"f","type":{"type":"record","name":"R","fields":[]}}]}', 26)
+    seq("two 25 and two 26, the first in preorder")
+    add('[{"type":"fixed","name":"F","size":1},{"type":"fixed","name":"G","size":1}]', (1, 3, 2))
+    add('{"type":"array","items":[{"type":"fixed","name":^"G","size":1},{"type":"fixed","name":"F","size":1}]}', 25)
+    add('[^"X","Y"]', 26)
+    add('["F","G",^"Y","X"]', 26)
+    seq("a refused definition defines nothing")
+    add('[{"type":"fixed","name":"F","size":1},^"G"]', 26)
+    add(ref("F"), 26)
+    add(F("F"), (1, 1, 1))
+    seq("a long name, all but the last byte alike")
+    add(F("~254~a"), (1, 1, 255))
+    add(F("~254~b"), (2, 2, 510))
+    add(F("~254~a"), 25)
+    add(ref("~254~c"), 26)
+    add(ref("~254~b"), (3, 4, 765))
+
+
+# ---- replace
+
+def replaces():
+    A, B, C = F("F"), ref("F"), '{"type":"map","values":"F"}'
+    seq("replace at the first, middle and last place, larger")
+    for t in (A, '"int"', '"long"'):
+        add(t)
+    swap(0, R("R", '"int"', '"string"'), (3, 7, 5))
+    swap(1, R("S", '"R"'), (3, 9, 9))
+    swap(2, R("T", '"S"', '"R"', '"T"'), (3, 15, 19))
+    full()
+    seq("replace at the first, middle and last place, smaller")
+    for t in (R("R", '"int"', '"string"'), R("S", '"int"', '"R"'), R("T", '"int"', '"int"')):
+        add(t)
+    swap(2, '"int"', (3, 11, 11))
+    swap(1, '"null"', (3, 7, 5))
+    swap(0, "[]", (3, 3, 0))
+    full()
+    seq("replace by the same text")
+    add(LISTING, (1, 7, 11))
+    add(E("e.E"), (2, 10, 16))
+    swap(0, LISTING, (2, 10, 16))
+    swap(1, E("e.E"), (2, 10, 16))
+    full()
+    seq("replace by the same rows at other positions")
+    add(LISTING, (1, 7, 11))
+    swap(0, " " + LISTING, (1, 7, 11))
+    say("rows 0")
+    swap(0, LISTED, (1, 7, 11))
+    say("rows 0")
+    swap(0, LISTING, (1, 7, 11))
+    seq("replace in a set of one")
+    add(A, (1, 1, 1))
+    swap(0, F("G"), (1, 1, 1))
+    swap(0, ref("F"), 26)
+    swap(0, R("a.F", '"F"'), (1, 3, 8))
+    swap(1, '"int"', 21)
+    full()
+    seq("replace leaves what stands before it")
+    for t in (A, B, C, E("E"), '"E"'):
+        add(t)
+    swap(4, '["E","F"]', (5, 11, 8))
+    swap(3, '{"type":"enum","name":"E","symbols":[]}', (5, 9, 6))
+    full()
+    seq("26 behind the place")
+    add(A)
+    add(B)
+    swap(0, F("G"), 26, behind=1)
+    swap(0, '"int"', 26, behind=1)
+    swap(0, R("F"), (2, 3, 2))
+    full()
+    seq("26 two behind the place")
+    for t in (A, '"int"', "  " + B):
+        add(t)
+    swap(0, F("G"), 26, behind=2)
+    swap(1, F("G"), (3, 4, 3))
+    swap(0, '{"type":"fixed","name":"H","size":1,"aliases":["F"]}', 26, behind=2)
+    full()
+    seq("26 behind the place, of two the earlier")
+    for t in (A, B, C):
+        add(t)
+    swap(0, '"int"', 26, behind=1)
+    swap(1, '"int"', (3, 4, 2))
+    swap(2, '{"type":"map","values":^"F"}', (3, 4, 2))
+    swap(0, '"int"', 26, behind=2)
+    seq("26 behind the place, in one declaration the first")
+    add('[{"type":"fixed","name":"F","size":1},{"type":"fixed","name":"G","size":1}]')
+    add('{"type":"record","name":"R","fields":[{"name":"f","type":"int"},{"name":"g","type":^"G"},{"name":"h","type":"F"}]}')
+    swap(0, '"int"', 26, behind=1)
+    swap(0, F("F"), 26, behind=1)
+    seq("26 behind the place, the second reference of two")
+    add('[{"type":"fixed","name":"F","size":1},{"type":"fixed","name":"G","size":1}]')
+    add('["F",{"type":"array","items":^"G"}]')
+    swap(0, F("F"), 26, behind=1)
+    swap(0, '[{"type":"fixed","name":"G","size":1},{"type":"fixed","name":"F","size":1}]', (2, 7, 4))
+    seq("26 behind the place because a definition moved into another namespace")
+    add('{"type":"record","name":"R","namespace":"a","fields":[]}')
+    add(ref("a.R"))
+    swap(0, '{"type":"record","name":"R","namespace":"b","fields":[]}', 26, behind=1)
+    swap(0, '{"type":"record","name":"R","fields":[]}', 26, behind=1)
+    swap(0, '{"type":"enum","name":"a.R","symbols":[]}', (2, 3, 6))
+    seq("25 behind the place")
+    add(A)
+    add(F("G"))
+    swap(0, F("G"), 25, behind=1)
+    swap(0, '[{"type":"fixed","name":"H","size":1},{"type":"enum","name":"G","symbols":[]}]', 25, behind=1)
+    swap(1, F("F"), 25)
+    swap(0, F("H"), (2, 2, 2))
+    full()
+    seq("25 three behind the place")
+    for t in ('"int"', '"long"', A, '{"type":"array","items":{"type":"record","name":^"G","fields":[]}}'):
+        add(t)
+    swap(0, F("G"), 25, behind=3)
+    swap(1, '{"type":"array","items":{"type":"fixed","name":"G","size":1}}', 25, behind=3)
+    swap(2, R("F", plain(F("G"))), 25, behind=3)
+    swap(3, R("G", '"F"'), (4, 6, 5))
+    full()
+    seq("25 behind the place, of two the earlier")
+    for t in ('"int"', A, F("G")):
+        add(t)
+    swap(0, '[{"type":"fixed","name":"G","size":1},{"type":"fixed","name":"F","size":1}]', 25, behind=1)
+    seq("25 behind the place before 26 behind that")
+    for t in (A, F("G"), B):
+        add(t)
+    swap(0, F("G"), 25, behind=1)
+    seq("26 behind the place before 25 behind that")
+    for t in (A, B, F("G")):
+        add(t)
+    swap(0, F("G"), 26, behind=1)
+    seq("25 and 26 behind the place in one declaration, 25 first")
+    add(A)
+    add('[{"type":"fixed","name":^"G","size":1},"F"]')
+    swap(0, F("G"), 25, behind=1)
+    seq("25 and 26 behind the place in one declaration, 26 first")
+    add(A)
+    add('[^"F",{"type":"fixed","name":"G","size":1}]')
+    swap(0, F("G"), 26, behind=1)
+    seq("25 in the new text before 26 behind")
+    for t in (E("E"), A, B):
+        add(t)
+    swap(1, E("E"), 25)
+    swap(1, '[^"X",{"type":"enum","name":"E","symbols":[]}]', 26)
+    seq("26 in the new text before 25 behind")
+    for t in ('"int"', F("G")):
+        add(t)
+    swap(0, '[{"type":"fixed","name":"G","size":1},^"X"]', 26)
+    seq("a new text may not refer to what it replaces")
+    add(A)
+    add(E("E"))
+    swap(0, ref("F"), 26)
+    swap(0, ref("E"), 26)
+    swap(1, ref("E"), 26)
+    swap(1, ref("F"), (2, 3, 2))
+    seq("a new text may take the name of what it replaces")
+    add(A)
+    add(B)
+    swap(0, E("F"), (2, 5, 4))
+    swap(0, R("F", '"F"'), (2, 5, 5))
+    full()
+    seq("23 behind the place")
+    add('"int"')
+    add(rows("B", 1000))
+    add(rows("C", 23), (3, 1024, 1023))
+    swap(0, '["int"]', 23, behind=2)
+    swap(0, rows("A", 24), 23, behind=2)
+    swap(0, rows("A", 25), 23, behind=1)
+    swap(0, rows("A", 1025), 23)
+    swap(0, '"long"', (3, 1024, 1023))
+    swap(1, rows("B", 999), (3, 1023, 1022))
+    swap(0, '["int"]', (3, 1024, 1022))
+    seq("24 behind the place")
+    add(F("A"))
+    add(weight("B", 16000))
+    add(weight("C", 383), (3, 67, 16384))
+    swap(0, F("AA"), 24, behind=2)
+    swap(0, weight("A", 384), 24, behind=2)
+    swap(0, weight("A", 385), 24, behind=1)
+    swap(0, weight("A", 16384), 24, behind=1)
+    swap(0, weight("A", 16385), 24)
+    swap(0, F("X"), (3, 67, 16384))
+    swap(2, weight("C", 382), (3, 67, 16383))
+    swap(0, F("XX"), (3, 67, 16384))
+    seq("24 behind the place before 23 behind that")
+    add('"int"')
+    add(weight("B", 16300), (2, 66, 16300))
+    add(rows("C", 80), (3, 146, 16380))
+    swap(0, rows("A", 84), 24, behind=2)
+    swap(0, rows("A", 85), 24, behind=1)
+    swap(0, rows("A", 900), 24, behind=1)
+    swap(0, rows("A", 1), (3, 146, 16381))
+    swap(0, '{"type":"array","items":' * 20 + '"int"' + "}" * 20, (3, 166, 16380))
+    swap(0, rows("A", 5), 24, behind=2)
+    seq("23 behind the place before 24 of the same declaration")
+    add('"int"')
+    add(rows("B", 900), (2, 901, 900))
+    add(weight("C", 15400), (3, 963, 16300))
+    swap(0, rows("A", 62), (3, 1024, 16362))
+    swap(0, rows("A", 63), 23, behind=2)
+    swap(0, rows("A" * 24, 63), 23, behind=2)
+    swap(0, rows("A" * 24, 62), 24, behind=2)
+    seq("23 behind the place before 25 of the same declaration")
+    add('"int"')
+    add(rows("B", 1023), (2, 1024, 1023))
+    swap(0, '[{"type":"fixed","name":"B","size":0}]', 23, behind=1)
+    swap(0, F("B"), 25, behind=1)
+    seq("25 behind the place before 23 behind that")
+    for t in ('"int"', F("B"), rows("C", 1022)):
+        add(t)
+    swap(0, '[{"type":"fixed","name":"B","size":0}]', 25, behind=1)
+    swap(0, '[{"type":"fixed","name":"D","size":0}]', 23, behind=2)
+    seq("24 behind the place before 26 of the same declaration")
+    add(F("F"))
+    add('["F",%s]' % plain(weight("W", 16382)), (2, 69, 16384))
+    swap(0, F("FF"), 24, behind=1)
+    seq("26 behind the place before 24 behind that")
+    for t in (A, B, weight("W", 16382)):
+        add(t)
+    swap(0, F("GG"), 26, behind=1)
+    swap(0, '[{"type":"fixed","name":"F","size":1},{"type":"fixed","name":"G","size":1}]', 24, behind=2)
+    seq("positions behind the place are those that the rows keep")
+    add(A)
+    add(" " * 300 + B)
+    add("\n" * 5 + '{"type":"record","name":^"G","fields":[]}')
+    swap(0, '"int"', 26, behind=1)
+    swap(0, '[{"type":"fixed","name":"F","size":1},{"type":"fixed","name":"G","size":1}]', 25, behind=2)
+    seq("chains of references")
+    add(F("A"))
+    for a, b in zip("ABCDE", "BCDEF"):
+        add(R(b, '^"%s"' % a).replace("^", "", 1))
+    for place, n in enumerate("BCDEF"):
+        swap(place, F("Z"), 26, behind=place + 1)
+    swap(5, F("Z"), (6, 14, 18))
+    full()
+    seq("two places exchanged by three replaces")
+    add(F("A"))
+    add(F("B"))
+    swap(0, F("B"), 25, behind=1)
+    swap(0, F("T"), (2, 2, 2))
+    swap(1, F("A"), (2, 2, 2))
+    swap(0, F("B"), (2, 2, 2))
+    full()
+
+
+# ---- limits
+
+def limits():
+    seq("32 declarations, and one more")
+    for i in range(32):
+        add('"int"', (i + 1, i + 1, 0))
+    add('"int"', 22)
+    swap(31, F("F"), (32, 32, 1))
+    swap(32, F("F"), 21)
+    swap(0, ref("F"), 26)
+    ask("rows 31", None)
+    ask("rows 32", 21)
+    name(31, 0, "F")
+    name(32, 0, 21)
+    seq("22 before 1, 2, 3 and the checks of the text")
+    for i in range(32):
+        add(F("F%d" % i))
+    for t in (TOO_LONG, "", "[" * 65, "5", "{}", '{"type":"record"}', '"1"', F("int"), F("~256~"), '["int","int"]', rows("X", 1025), weight("X", 16385), F("F3"), ref("G")):
+        add(t, 22)
+    swap(31, ref("F30"), (32, 33, 86))
+    seq("31 declarations, and the last one refused")
+    for i in range(31):
+        add("[]", (i + 1, i + 1, 0))
+    add('^"R"', 26)
+    add("^5", 4)
+    add('"int"', (32, 32, 0))
+    add('"int"', 22)
+    seq("1,024 rows in one declaration")
+    add(rows("F", 1024), (1, 1024, 1024))
+    add('"int"', 23)
+    name(0, 0, "F")
+    name(0, 1, "a")
+    name(0, 1023, "a")
+    name(0, 1024, 21)
+    text_of(0, 0, 38, '{"name":"F","type":"fixed","size":0}')
+    say("fingerprint 0")
+    swap(0, rows("F", 1025), 23)
+    swap(0, rows("F", 1023), (1, 1023, 1023))
+    add('"int"', (2, 1024, 1023))
+    add("[]", 23)
+    seq("1,025 rows in one declaration")
+    add(rows("F", 1025), 23)
+    add('"int"', (1, 1, 0))
+    seq("1,024 rows in two declarations")
+    add(rows("F", 500), (1, 500, 500))
+    add(rows("G", 525), 23)
+    add(rows("G", 524), (2, 1024, 1024))
+    add('"int"', 23)
+    name(1, 523, "a")
+    name(1, 524, 21)
+    swap(0, rows("F", 501), 23, behind=1)
+    swap(1, rows("G", 525), 23)
+    swap(1, '"F"', (2, 501, 501))
+    seq("1,024 rows of fields and symbols")
+    add('{"type":"enum","name":"E","symbols":[%s]}' % declaration_texts.symbols(500), (1, 501, 1891))
+    add('{"type":"record","name":"R","fields":[%s]}' % ",".join('{"name":"f%d","type":"E"}' % i for i in range(261)), (2, 1024, 3087))
+    add("[]", 23)
+    say("fingerprint 0")
+    say("fingerprint 1")
+    name(1, 522, "E")
+    name(1, 521, 21)
+    seq("a union of many")
+    add('[%s,^"int"]' % ",".join(['"int"'] + ['{"type":"fixed","name":"F%d","size":0}' % i for i in range(60)]), 19)
+    add('[%s]' % ",".join(['"int"'] + ['{"type":"fixed","name":"F%d","size":0}' % i for i in range(60)]), (1, 62, 170))
+    say("fingerprint 0")
+    seq("16,384 string bytes in one declaration")
+    add(weight("W", 16384), (1, 66, 16384))
+    add(F("F"), 24)
+    add('"int"', (2, 67, 16384))
+    add("[]", (3, 68, 16384))
+    swap(0, weight("W", 16385), 24)
+    swap(0, weight("W", 16383), (3, 68, 16383))
+    add(F("F"), (4, 69, 16384))
+    add(F("G"), 24)
+    seq("16,385 string bytes in one declaration")
+    add(weight("W", 16385), 24)
+    add('"int"', (1, 1, 0))
+    add(weight("W", 16384), (2, 67, 16384))
+    add(F("F"), 24)
+    seq("16,384 string bytes in three declarations")
+    add(weight("A", 5000))
+    add(weight("B", 5000))
+    add(weight("C", 6385), 24)
+    add(weight("C", 6384), None)
+    name(2, 0, "n" * 250 + ".C")
+    name(2, 1, "n" * 250 + ".a")
+    swap(1, weight("B", 5001), 24, behind=2)
+    swap(1, weight("B", 4999))
+    add(F("F"))
+    add(F("G"), 24)
+    seq("a string that ends at the last byte")
+    add(weight("W", 16383))
+    add(F("F"))
+    name(1, 0, "F")
+    ask("poke 51265 47", "ok")
+    Now.texts, Now.digest = [None, None], None
+    name(1, 0, "G")
+    add(F("H"), 24)
+    swap(1, F("H"))
+    name(1, 0, "H")
+    seq("all limits at once")
+    for i in range(30):
+        add(rows("A%02d" % i, 31), (i + 1, 31 * (i + 1), 33 * (i + 1)))
+    add(weight("W", 15150), (31, 991, 16140))
+    add(rows("B" * 212, 33), (32, 1024, 16384))
+    add('"int"', 22)
+    swap(0, rows("A00", 32), 23, behind=31)
+    swap(0, rows("A000", 31), 24, behind=31)
+    swap(31, rows("B" * 212, 34), 23)
+    swap(31, rows("B" * 213, 33), 24)
+    swap(0, rows("A01", 31), 25, behind=1)
+    swap(29, rows("A28", 31), 25)
+    swap(31, "[]", (32, 992, 16140))
+    swap(30, '"A29"', (32, 932, 993))
+    say("fingerprint 29")
+    say("fingerprint 30")
+
+
+# ---- the order of numbers
+
+def order():
+    seq("20 before 21")
+    add(F("F"))
+    poke(65, b"\1")
+    for place in (0, 1, 5, 4294967296):
+        for line in ("name %d 0", "fingerprint %d", "rows %d", "name %d 9"):
+            ask(line % place, 20)
+        text_of(place, 0, 3, 20)
+        text_of(place, 4, 3, 20)
+        swap(place, '"int"', 20)
+    seq("20 before 22")
+    for i in range(32):
+        add('"int"')
+    poke(34881, b"\7")
+    add('"int"', 20)
+    add("x", 20)
+    swap(32, "x", 20)
+    poke(34881, b"\0")
+    add("x", 22)
+    swap(32, "x", 21)
+    seq("20 before 2, 3 and the checks of the text")
+    add(F("F"))
+    poke(51265, b"\xff")
+    for t in ("", "[" * 65, "5", "{}", '"1"', F("int"), '["int","int"]', F("F"), ref("G")):
+        add(t, 20)
+    for t in ("", "[" * 65, "5", "{}", '"1"', F("int"), '["int","int"]', ref("G")):
+        swap(0, t, 20)
+        swap(1, t, 20)
+    seq("20 before 23, 24, 25 and 26")
+    add(F("F"))
+    poke(200, b"\1")
+    for t in (weight("A", 16385), F("F"), ref("G")):
+        add(t, 20)
+        swap(0, t, 20)
+    add(rows("A", 1025), 20)
+    seq("21 before 1, 2, 3 and the checks of the text")
+    add(F("F"))
+    for t in (TOO_LONG, "", "[" * 65, "5", "{}", '"1"', F("int"), '["int","int"]', weight("X", 16385), ref("G")):
+        swap(1, t, 21)
+    seq("21 for a place in a set of three")
+    for n in "ABC":
+        add(F(n))
+    for place in (3, 4, 31, 32, 33, 255, 256, 65535, 65536, 4294967295, 4294967296, 18446744073709551615):
+        swap(place, F("D"), 21)
+        name(place, 0, 21)
+        ask("fingerprint %d" % place, 21)
+        ask("rows %d" % place, 21)
+        text_of(place, 0, 1, 21)
+    seq("2 before a fault of the declaration before it")
+    add('{"type":5,^}', 2)
+    add('["int","int"^', 2)
+    add('{"type":"enum","name":"1","symbols":[5]} ^]', 2)
+    seq("3 before a fault of the declaration before it")
+    add("[5,[]," + "[" * 63 + "^[]" + "]" * 64, 3)
+    add('{"type":"int","type":' + "[" * 63 + "^[" + "]" * 64 + "}", 3)
+    add('["int","int",' + "[" * 63 + "^[" + "]" * 65, 3)
+    seq("a fault of the declaration before 23")
+    many = ",".join(['"a"'] * 1030)
+    add('{"type":"enum","name":"E","aliases":[%s],"symbols":["A",^"A"]}' % many, 14)
+    add('{"type":"fixed","name":"R","aliases":[%s,^"1"],"size":0}' % many, 7)
+    seq("a fault of the declaration before 24")
+    add('{"type":"record","name":"R","namespace":"~250~","aliases":[%s],"fields":[^{"type":"int"}]}' % ",".join(['"a"'] * 70), 6)
+    add('{"type":"record","name":"R","namespace":"~250~","aliases":[%s,^"int"],"fields":[]}' % ",".join(['"a"'] * 70), 8)
+    add('{"type":"record","name":"R","namespace":"~250~","aliases":[%s,^"nnnnn"],"fields":[]}' % ",".join(['"a"'] * 70), 9)
+    add('{"type":"record","name":"R","namespace":"~250~","aliases":[%s],"fields":[{"name":"f","type":^{"type":"map"}}]}' % ",".join(['"a"'] * 70), 28)
+    seq("a fault of the declaration before 25 and 26")
+    add(F("F"))
+    add('{"type":"record","name":"F","fields":[{"name":"f","type":"G"},^{"type":"G"}]}', 6)
+    add('{"type":"record","name":"F","fields":[{"name":"f","type":"G"},{"name":^"f","type":"G"}]}', 11)
+    add('["G",{"type":"fixed","name":"F","size":1},^["G"]]', 19)
+    add('[{"type":"enum","name":"F","symbols":["A"],"default":^"B"},"G"]', 16)
+    swap(0, '["X",^{"type":"array"}]', 27)
+    seq("23 before 24")
+    add('{"type":"fixed","name":"R","namespace":"~250~","aliases":[%s],"size":0}' % ",".join(['"a"'] * 1024), 23)
+    add('{"type":"fixed","name":"R","namespace":"~250~","aliases":[%s],"size":0}' % ",".join(['"a"'] * 1023), 24)
+    seq("23 before 25 and 26")
+    add(F("F"))
+    add('[%s,{"type":"fixed","name":"F","size":1},"X"]' % plain(rows("G", 1022)), 23)
+    add('[{"type":"fixed","name":"F","size":1},%s]' % plain(rows("G", 1022)), 23)
+    add('[{"type":"fixed","name":^"F","size":1},%s]' % plain(rows("G", 1021)), 25)
+    seq("24 before 25 and 26")
+    add(F("F"))
+    add('[{"type":"fixed","name":"F","size":1},%s]' % plain(weight("W", 16383)), 24)
+    add('[{"type":"fixed","name":^"F","size":1},%s]' % plain(weight("W", 16382)), 25)
+    add('["X",%s]' % plain(weight("W", 16383)), 24)
+    add('[^"X",%s]' % plain(weight("W", 16382)), 26)
+    add('["F",%s]' % plain(weight("W", 16382)), None)
+    seq("29 after 21")
+    add('"int"')
+    text_of(1, 0, 0, 21)
+    text_of(1, 9, 3, 21)
+    text_of(0, 9, 3, (29, 5))
+
+
+# ---- memory
+
+def memories():
+    seq("open clears whatever memory held")
+    add(LISTING)
+    say("open")
+    digest()
+    say("fill 255")
+    digest()
+    assert say("open") == ["ok 0 0 0"]
+    digest()
+    say("memory 51330")
+    digest()
+    say("memory 51266")
+    Now.texts, Now.digest = [], None
+    add(LISTING, (1, 7, 11))
+    for b in (0, 1, 32, 33, 128, 255):
+        seq("memory filled with %d" % b)
+        say("fill %d" % b)
+        Now.digest = None
+        if b:
+            add('"int"', 20)
+            swap(0, '"int"', 20)
+            for line in ("name 0 0", "fingerprint 0", "rows 0"):
+                ask(line, 20)
+            text_of(0, 0, 2, 20)
+        else:
+            add('"int"', (1, 1, 0))
+        say("open")
+        digest()
+    for n in (0, 1, 2, 66, 34882, 51265, 51267, 51300, 51330):
+        seq("memory of %d bytes" % n)
+        add(LISTING)
+        say("memory %d" % n)
+        Now.digest = None
+        assert say("open") == ["refused 20 0 0"]
+        add('"int"', 20)
+        swap(0, '"int"', 20)
+        swap(7, '"int"', 20)
+        for line in ("name 0 0", "name 3 0", "fingerprint 0", "rows 0"):
+            ask(line, 20)
+        text_of(0, 0, 4, 20)
+        say("memory 51266")
+        Now.digest = None
+        name(0, 0, "a.R")
+        add('"a.R"', (2, 8, 14))
+    # one byte of the memory of a set of four declarations
+    texts = ['{"type":"record","name":"R","namespace":"a","fields":[{"name":"x","type":"int"},{"name":"y","type":["null","R"]}]}',
+             '{"type":"enum","name":"a.E","aliases":["D"],"symbols":["A","B"]}', '{"type":"fixed","name":"F","size":8,"logicalType":"decimal","precision":5,"scale":2}', '["bytes","a.E"]']
+    # rows: 0 record a.R, 1 field x, 2 int, 3 field y, 4 union, 5 null, 6 reference a.R; 7 enum a.E, 8 alias a.D, 9 symbol A, 10 symbol B; 11 fixed F; 12 union, 13 bytes, 14 reference a.E
+    # strings, from 34882 on: a.R x y a.R a.E a.D A B F a.E
+    row = [66 + 34 * i for i in range(16)]
+    bad = [
+        ("33 declarations", 0, b"\x21"), ("one declaration less", 0, b"\3"), ("one declaration more", 0, b"\5"), ("no declarations", 0, b"\0"), ("a high byte of the count", 1, b"\1"),
+        ("a row more in a declaration", 2, b"\x08"), ("a row less in a declaration", 2, b"\6"), ("rows moved between declarations", 2, b"\6\0\5\0"), ("a spare count", 10, b"\1"), ("the last spare count", 64, b"\0\1"),
+        ("kind 0", row[2], b"\0"), ("kind 9", row[2], b"\x09"), ("kind 255", row[2], b"\xff"), ("a primitive made a reference", row[2], b"\x10"), ("a field made a symbol", row[1], b"\x29"),
+        ("a symbol made a field", row[9], b"\x28"), ("an alias made a field alias", row[8], b"\x31"), ("a union made an array", row[4], b"\x18"), ("a record made an enum", row[0], b"\x21"),
+        ("a note on an int", row[2] + 1, b"\1"), ("note 7", row[13] + 1, b"\7"), ("note 1 without a precision", row[13] + 1, b"\1"), ("the decimal's note taken away", row[11] + 1, b"\0"),
+        ("a depth more", row[2] + 2, b"\3"), ("a depth less", row[2] + 2, b"\1"), ("a depth of the top row", row[0] + 2, b"\1"), ("a high byte of a depth", row[5] + 3, b"\1"),
+        ("position 32,768", row[6] + 5, b"\x80"), ("a length more", row[0] + 6, b"\4"), ("a length less", row[0] + 6, b"\2"), ("a start more", row[3] + 8, b"\5"), ("a start of a row that keeps no string", row[2] + 8, b"\0"),
+        ("a size on a record", row[0] + 10, b"\1"), ("a size's high byte on a union", row[4] + 17, b"\1"), ("a precision on a string row", row[9] + 18, b"\1"), ("scale over precision", row[11] + 26, b"\6"),
+        ("precision 0", row[11] + 18, b"\0"), ("a scale on note 0", row[13] + 26, b"\1"), ("a name that starts with a digit", 34882, b"1"), ("a name with a blank", 34883, b" "), ("two fields of one name", 34886, b"x"),
+        ("a reference to nothing", 34889, b"S"), ("two symbols alike", 34897, b"A"), ("an enum that is a record's name", 34892, b"R"), ("a dot at the end of a name", 34884, b"."),
+        ("the first spare row", row[15], b"\1"), ("the last byte of the rows", 34881, b"\1"), ("the first spare string byte", 34902, b"A"), ("the last byte", 51265, b"\1"),
+    ]
+    for label, at, data in bad:
+        seq("memory spoilt: " + label)
+        for t in texts:
+            add(t)
+        poke(at, data)
+        if replay.wellformed.well_formed(Now.machine.memory[:replay.LENGTH]):
+            raise AssertionError((label, "is well formed"))
+        add('"int"', 20)
+        swap(1, '"int"', 20)
+        ask("name 1 0", 20)
+        ask("rows 2", 20)
+        ask("fingerprint 3", 20)
+        text_of(0, 0, 5, 20)
+    good = [
+        ("a position", row[6] + 4, b"\xff\x7f"), ("positions in another order", row[0] + 4, b"\0\x10"), ("all positions alike", row[7] + 4, b"\x18\0"), ("the size", row[11] + 10, b"\xff\xff\xff\xff\xff\xff\xff\xff"),
+        ("the precision", row[11] + 18, b"\xff\xff\xff\xff\xff\xff\xff\xff"), ("scale as precision", row[11] + 26, b"\5"), ("note 6 on bytes", row[13] + 1, b"\6"), ("a field's name", 34885, b"_"), ("a symbol", 34897, b"Z"),
+        ("an int made a string", row[2], b"\x08"), ("an alias", 34895, b"Q"), ("a fixed's name", 34898, b"G"),
+    ]
+    for label, at, data in good:
+        seq("memory changed and still well formed: " + label)
+        for t in texts:
+            add(t)
+        poke(at, data)
+        if not replay.wellformed.well_formed(Now.machine.memory[:replay.LENGTH]):
+            raise AssertionError((label, "is not well formed"))
+        full()
+        add('"int"', None)
+        swap(4, "[]", None)
+    seq("a refusal behind the place has the position that the rows keep, whatever it is")
+    add(F("F"))
+    add(ref("F"))
+    add(E("E"))
+    poke(66 + 34 * 2 + 4, b"\x39\x30")
+    digest()
+    assert say("replace 0 " + b'"int"'.hex()) == ["refused 26 1 12345"]
+    digest()
+    poke(66 + 34 * 3 + 4, b"\xff\x7f")
+    assert say("replace 0 " + b'[{"type":"fixed","name":"F","size":1},{"type":"fixed","name":"E","size":1}]'.hex()) == ["refused 25 2 32767"]
+    digest()
+
+    def raw(label, declarations):
+        """A set that no text gives: its rows are poked into the memory."""
+        seq(label)
+        memory = replay.encoded([[replay.Row(k, d, p, s, 0, 0, 0, 0) for k, d, p, s in ds] for ds in declarations])
+        used = sum(len(ds) for ds in declarations)
+        text = sum(len(r[3]) for ds in declarations for r in ds)
+        say("poke 0 " + memory[:2 + 2 * len(declarations)].hex())
+        for at in range(66, 66 + 34 * used, 34):
+            say("poke %d %s" % (at, memory[at:at + 34].rstrip(b"\0").hex()))
+        say("poke 34882 " + (memory[34882:34882 + text].hex() or "-"))
+        Now.texts, Now.marks, Now.digest = [None] * len(declarations), [None] * len(declarations), None
+        assert replay.wellformed.well_formed(Now.machine.memory[:replay.LENGTH])
+
+    raw("arrays nested 100 deep", [[("array", i, 0, b"") for i in range(100)] + [("union", 100, 0, b"")]])
+    text_of(0, 0, 2502, '{"type":"array","items":' * 100 + "[]" + "}" * 100)
+    say("fingerprint 0")
+    add('"int"', (2, 102, 0))
+    swap(0, '"int"', (2, 2, 0))
+    raw("arrays and maps nested 1,023 deep", [[("array" if i % 2 else "map", i, i, b"") for i in range(1023)] + [("null", 1023, 32767, b"")]])
+    deep = '{"type":"map","values":{"type":"array","items":' * 511 + '{"type":"map","values":"null"}' + "}" * 1022
+    assert len(deep) == 511 * 25 + 512 * 24 + 6
+    text_of(0, 0, 25069, deep)
+    text_of(0, 3, 25072, deep)
+    text_of(0, 0, 25068, (29, 25069))
+    say("fingerprint 0")
+    add('"int"', 23)
+    name(0, 1023, 21)
+    raw("records nested 100 deep", [[r for i in range(100) for r in (("record", 2 * i, 0, b"R%d" % i), ("field", 2 * i + 1, 0, b"f"))] + [("reference", 200, 77, b"R0")]])
+    say("fingerprint 0")
+    name(0, 200, "R0")
+    name(0, 198, "R99")
+    add('^"R45"', (2, 202, 395))
+    swap(0, R("R0"), 26, behind=1)
+    full()
+
+
+# ---- canonical text
+
+CANONICAL = [
+    ("[]", "[]"), ('{"type":"array","items":[]}', '{"type":"array","items":[]}'), ('{"type":"map","values":{"type":"string"}}', '{"type":"map","values":"string"}'),
+    ('["null","int"]', '["null","int"]'), ('{"type":"enum","name":"E","symbols":[]}', '{"name":"E","type":"enum","symbols":[]}'), ('{"type":"record","name":"R","fields":[]}', '{"name":"R","type":"record","fields":[]}'),
+    ('{"type":"enum","doc":"x","name":"E","namespace":"a","aliases":["F"],"symbols":["B","A"],"default":"A"}', '{"name":"a.E","type":"enum","symbols":["B","A"]}'),
+    ('{"type":"fixed","name":"F","size":0}', '{"name":"F","type":"fixed","size":0}'), ('{"type":"fixed","name":"F","size":9}', '{"name":"F","type":"fixed","size":9}'),
+    ('{"type":"fixed","name":"F","size":10}', '{"name":"F","type":"fixed","size":10}'), ('{"type":"fixed","name":"F","size":18446744073709551615}', '{"name":"F","type":"fixed","size":18446744073709551615}'),
+    ('{"type":"fixed","name":"F","size":10000000000000000000}', '{"name":"F","type":"fixed","size":10000000000000000000}'), ('{"type":"fixed","name":"F","size":907050302010}', '{"name":"F","type":"fixed","size":907050302010}'),
+    ('{"type":"fixed","name":"F","size":16,"logicalType":"decimal","precision":4,"scale":1}', '{"name":"F","type":"fixed","size":16}'), ('{"type":"bytes","logicalType":"decimal","precision":4}', '"bytes"'),
+    (r'{"type":"r\u0065cord","name":"\u0052","fields":[{"name":"f","aliases":["g"],"doc":"d","default":1,"order":"ignore","type":{"type":{"type":"int"}}}]}', '{"name":"R","type":"record","fields":[{"name":"f","type":"int"}]}'),
+    ('{"type":"record","name":"a.b.R","fields":[{"name":"f","type":{"type":"record","name":"S","fields":[{"name":"g","type":["R","S",{"type":"enum","name":".E","symbols":["A"]}]}]}},{"name":"h","type":".E"}]}',
+     '{"name":"a.b.R","type":"record","fields":[{"name":"f","type":{"name":"a.b.S","type":"record","fields":[{"name":"g","type":["a.b.R","a.b.S",{"name":"E","type":"enum","symbols":["A"]}]}]}},{"name":"h","type":"E"}]}'),
+]
+
+
+def canonicals():
+    for i, (text, want) in enumerate(CANONICAL):
+        n = len(want)
+        seq("canonical text %d: its room and offsets" % i)
+        add('"null"')
+        add(text)
+        text_of(1, 0, n, want)
+        text_of(1, 0, n + 3, want)
+        text_of(1, 2, n + 2, want)
+        text_of(1, 1, n + 4, want)
+        text_of(1, 0, n - 1, (29, n))
+        text_of(1, 1, n, (29, n))
+        text_of(1, n, n, (29, n))
+        text_of(1, n + 1, n, (29, n))
+        text_of(1, 0, 0, (29, n))
+        say("fingerprint 1")
+        digest()
+    seq("offsets at and past the end")
+    add('"int"')
+    for offset in (0, 1, 2, 3, 4, 5, 6, 7, 8, 255, 65535, 4294967295, 9223372036854775807, 18446744073709551610, 18446744073709551611, 18446744073709551615):
+        if offset <= 2:
+            text_of(0, offset, 7, '"int"')
+        else:
+            text_of(0, offset, 7, (29, 5))
+    text_of(0, 1000, 1005, '"int"')
+    text_of(0, 1000, 1004, (29, 5))
+    seq("a place behind others has its own text")
+    for t in (LISTING, E("E"), '["a.R","E"]', '{"type":"map","values":"E"}'):
+        add(t)
+    text_of(0, 0, 106, LISTED)
+    text_of(1, 0, 46, '{"name":"E","type":"enum","symbols":["A","B"]}')
+    text_of(2, 3, 14, '["a.R","E"]')
+    text_of(3, 0, 29, '{"type":"map","values":"E"}')
+    full()
+    seq("equal texts by other spellings")
+    add('{"type":"record","name":"x.R","fields":[{"name":"f","type":"int"}]}')
+    say("fingerprint 0")
+    for t in ('{"fields":[{"type":{"type":"int"},"name":"f"}],"namespace":"x","name":"R","type":"record"}', '{ "type":{"type":"record","name":"R","namespace":"x","aliases":["Q"],"fields":[5,{"name":"f","aliases":["g"],"type":"int"}]}}'):
+        swap(0, t)
+        text_of(0, 0, 70, '{"name":"x.R","type":"record","fields":[{"name":"f","type":"int"}]}')
+        say("fingerprint 0")
+        say("rows 0")
+
+
+# ---- the scan, and lines that are none
+
+def others():
+    seq("scans, which touch nothing")
+    add('"int"')
+    digest()
+    for c in declaration_texts.CASES:
+        if c.number in (2, 3) and len(c.text) < 300:
+            ask("scan " + (c.text.hex() or "-"), "refused %d 0 %d" % (c.number, c.position))
+        elif c.number in (4, 5, 19) and len(c.text) < 30:
+            ask("scan " + c.text.hex(), "ok")
+    digest()
+    seq("lines that are none")
+    add('"int"')
+    for line in ("", "hello", "Open", "open 1", "add", "add zz", "add 7", "add 7B7D", "replace 0", "replace - 22", "name 0", "name 0 0 0", "rows", "rows x", "canonical 0 0", "fingerprint", "scan", "digest 0", " open", "open ", "add  22", "poke 0", "fill", "memory"):
+        assert say(line) == ["what?"], line
+    digest()
+    name(0, 0, 21)
+
+
+# ---- sequences by a generator of fixed seed
+
+POOL = ['"int"', "[]", F("A"), F("B"), F("n.A"), E("B"), E("C"), R("A"), R("A", '"A"'), R("B", '"A"', '"int"'), R("C", '"B"', '["null","C"]'), R("n.A", '"B"'), R("n.C", '"A"', plain(F("B"))), ref("A"), ref("B"), ref("C"), ref("n.A"),
+        '["A","B"]', '{"type":"map","values":["null","C"]}', '{"type":"record","name":"D","fields":[{"name":"f","type":{"type":"fixed","name":"A","size":1}},{"name":"g","type":"B"}]}',
+        '{"type":"enum","name":"D","aliases":["A","B"],"symbols":["A"]}', '["int","int"]', "{}", '{"type":"record","name":"n.D","fields":[{"name":"f","type":"D"}]}', weight("A", 9000), weight("C", 7000)]
+HEAVY = [rows("C", 400), rows("B", 500)]
+
+
+def random_ones():
+    for seed in range(40):
+        rng = random.Random(seed + 7)
+        seq("random %d" % seed)
+        for _ in range(rng.randint(8, 16)):
+            if Now.digest is None:
+                digest()
+            n = len(Now.texts)
+            text = unmarked(rng.choice(HEAVY if rng.random() < 0.04 else POOL))[0]
+            if rng.random() < 0.45:
+                line, place = "add", n
+            else:
+                place = rng.randrange(n + 1) if rng.random() < 0.1 else rng.randrange(max(n, 1))
+                line = "replace %d" % place
+            before = Now.digest
+            got = say(line + " " + text.hex())
+            digest()
+            edited = Now.texts[:place] + [text] + Now.texts[place + 1:]
+            if got[0].startswith("ok"):
+                Now.texts = edited
+                assert from_nothing(edited) == bytes(Now.machine.memory[:replay.LENGTH])
+            else:
+                assert before == Now.digest
+                assert got[0].startswith("refused 21 ") or from_nothing(edited) == got
+        for place in range(len(Now.texts)):
+            say("fingerprint %d" % place)
+        if sum(len(t) for t in Now.texts) < 600:
+            for place in range(len(Now.texts)):
+                say("rows %d" % place)
+
+
+# ---- a script for people
+
+def short():
+    seq("a script for people")
+    digest()
+    add(LISTING, (1, 7, 11))
+    say("rows 0")
+    text_of(0, 0, 105, LISTED)
+    say("fingerprint 0")
+    name(0, 0, "a.R")
+    name(0, 6, "a.R")
+    name(0, 1, 21)
+    add('{"type":"enum","name":"E","namespace":"a","aliases":["D"],"symbols":["A","B"],"default":"B"}', (2, 11, 19))
+    add('{"type":"fixed","name":"F","size":16,"logicalType":"decimal","precision":9,"scale":2}', (3, 12, 20))
+    say("rows 2")
+    add('{"type":"map","values":["null",^"a.E","F"]}', (4, 17, 24))
+    say("rows 3")
+    text_of(3, 0, 44, '{"type":"map","values":["null","a.E","F"]}')
+    text_of(3, 2, 44, '{"type":"map","values":["null","a.E","F"]}')
+    text_of(3, 3, 44, (29, 42))
+    add('{"type":"int"^', 2)
+    add('["int",^"int"]', 19)
+    add('{"type":"record","name":^"1R","fields":[]}', 7)
+    add(F("F"), 25)
+    add(ref("a.D"), 26)
+    swap(1, '"int"', 26, behind=3)
+    swap(0, R("S", '"string"'), (4, 13, 16))
+    say("rows 0")
+    swap(4, '"int"', 21)
+    say("scan " + b'{"a":[1,2,{"b":null}]}'.hex())
+    say("scan " + b'{"a":[1,2,{"b":nul}]}'.hex())
+    poke(65, b"\1")
+    add('"int"', 20)
+    ask("rows 0", 20)
+    say("open")
+    digest()
+    say("memory 51265")
+    say("open")
+    say("what is this")
+
+
+def write(where):
+    os.makedirs(where, exist_ok=True)
+    stdin, stdout = "\n".join(LINES) + "\n", "\n".join(ANSWERS) + "\n"
+    assert len(stdin) < 900000 and len(stdout) < 2000000, (len(stdin), len(stdout))
+    open(os.path.join(where, "stdin"), "w").write(stdin)
+    open(os.path.join(where, "stdout"), "w").write(stdout)
+    print(len(SEQUENCES), "sequences,", len(LINES), "lines,", len(stdin), "bytes;", len(ANSWERS), "answers,", len(stdout), "bytes", file=sys.stderr)
+
+
+def main(args):
+    if args[0] == "--short":
+        short()
+        write(args[1])
+        return
+    for part in (first, refusals, names, replaces, limits, order, memories, canonicals, others, random_ones):
+        part()
+    ended()
+    if args[0] == "labels":
+        for line, label in SEQUENCES:
+            print(line, label)
+        return
+    assert len(SEQUENCES) >= 220
+    seen = {int(a.split()[1]) for a in ANSWERS if a.startswith("refused")}
+    assert seen == set(range(1, 30)), set(range(1, 30)) - seen
+    write(args[0])
+
+
+if __name__ == "__main__":
+    main(sys.argv[1:])
