@@ -1,14 +1,18 @@
 // What bench/ times, as functions that C can call.
+use answer::Answer;
+use canonical::Written;
 use json::Scan;
 use row::Layout;
 use schema::Walked;
 ghost use mathlib.Core.Path.{_≡_};
 ghost use lib.ListN.{length};
-ghost use Rattle.bench_calls.specs.Places.{placeOf, rowsRead};
+ghost use Rattle.bench_calls.specs.Places.{placeOf, rowsRead, rowsIn, lengthIn};
+ghost use Rattle.canonical.specs.Calls.{writtenAt, lengthOf, bufferAfter};
 ghost use Rattle.json.specs.Json.{scanned};
 ghost use Rattle.rabin.specs.Rabin.{rabinOf};
 ghost use Rattle.resolve.specs.WellFormed.{wellFormed};
 ghost use Rattle.schema.specs.Schema.{declared};
+ghost use Rattle.set.specs.Calls.{answerOf, memoryOf, added, replaced};
 
 #[no_mangle]
 pub extern "C" fn bench_fingerprint(bytes: &[u8]) -> i64
@@ -45,4 +49,48 @@ pub extern "C" fn bench_well_formed(memory: &[u8]) -> bool
     ensures { λ r. ⌜ r ≡ wellFormed (now (memory .entry)) ⌝ }
 {
     resolve::well_formed(memory)
+}
+
+fn rows_in(a: Answer) -> usize
+    ensures { λ r. ⌜ r ≡ rowsIn a ⌝ }
+{
+    match a {
+        Answer::Done(c) => c.rows,
+        Answer::Refused(_) => 0,
+    }
+}
+
+// How many rows the set has then, 0 where the text is refused.
+#[no_mangle]
+pub extern "C" fn bench_add(memory: &mut [u8], text: &[u8]) -> usize
+    ensures { λ r. ⌜ (r ≡ rowsIn (answerOf (added (now (memory .entry)) (now (text .entry)))))
+        × (now (memory .exit) ≡ memoryOf (now (memory .entry)) (added (now (memory .entry)) (now (text .entry)))) ⌝ }
+{
+    rows_in(set::add(memory, text))
+}
+
+#[no_mangle]
+pub extern "C" fn bench_replace(memory: &mut [u8], place: usize, text: &[u8]) -> usize
+    ensures { λ r. ⌜ (r ≡ rowsIn (answerOf (replaced (now (memory .entry)) place (now (text .entry)))))
+        × (now (memory .exit) ≡ memoryOf (now (memory .entry)) (replaced (now (memory .entry)) place (now (text .entry)))) ⌝ }
+{
+    rows_in(set::replace(memory, place, text))
+}
+
+fn length_in(w: Written) -> usize
+    ensures { λ r. ⌜ r ≡ lengthIn w ⌝ }
+{
+    match w {
+        Written::Length(n) => n,
+        Written::Refused(_) => 0,
+    }
+}
+
+// How long the canonical text is, 0 where it is refused.
+#[no_mangle]
+pub extern "C" fn bench_canonical(memory: &[u8], place: usize, buffer: &mut [u8]) -> usize
+    ensures { λ r. ⌜ (r ≡ lengthIn (lengthOf (writtenAt (now (memory .entry)) place 0 (length (now (buffer .entry))))))
+        × (now (buffer .exit) ≡ bufferAfter (writtenAt (now (memory .entry)) place 0 (length (now (buffer .entry)))) (now (buffer .entry)) 0) ⌝ }
+{
+    length_in(canonical::canonical(memory, place, buffer, 0))
 }
