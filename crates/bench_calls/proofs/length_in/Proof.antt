@@ -6,17 +6,17 @@ use borrow.Author.Needs.{needs}
 use Rattle.bench_calls.proofs.length_in.Statement.{statement}
 use Rattle.bench_calls.proofs.length_in.Tie as tie
 
-enum-known-n : tie.Need-enum-known-n
-enum-known-n c = search needs
+enum-known-w : tie.Need-enum-known-w
+enum-known-w c = search needs
 
 enum-told : tie.Need-enum-told
 enum-told c = search needs
 
 returns : tie.Need-returns
-returns c = sym (ap lengthIn (c .before .n .given .1))
+returns c = sym (ap lengthIn (c .before .w .given .1))
 
 returns-2 : tie.Need-returns-2
 returns-2 c = sym (ap lengthIn (c .enum-told .given .1))
 
 pub length-in-spec : {M : Type 1} → statement M
-length-in-spec = tie.close (tie.spec enum-known-n enum-told returns returns-2)
+length-in-spec = tie.close (tie.spec enum-known-w enum-told returns returns-2)

@@ -6,17 +6,17 @@ use borrow.Author.Needs.{needs}
 use Rattle.bench_calls.proofs.rows_in.Statement.{statement}
 use Rattle.bench_calls.proofs.rows_in.Tie as tie
 
-enum-known-c : tie.Need-enum-known-c
-enum-known-c c = search needs
+enum-known-a : tie.Need-enum-known-a
+enum-known-a c = search needs
 
 enum-told : tie.Need-enum-told
 enum-told c = search needs
 
 returns : tie.Need-returns
-returns c = sym (ap rowsIn (c .before .c .given .1))
+returns c = sym (ap rowsIn (c .before .a .given .1))
 
 returns-2 : tie.Need-returns-2
 returns-2 c = sym (ap rowsIn (c .enum-told .given .1))
 
 pub rows-in-spec : {M : Type 1} → statement M
-rows-in-spec = tie.close (tie.spec enum-known-c enum-told returns returns-2)
+rows-in-spec = tie.close (tie.spec enum-known-a enum-told returns returns-2)
