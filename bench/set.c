@@ -1,0 +1,62 @@
+/* add and replace on empty, small and full sets, beside the sum of the three things that add cannot do without: the scan of the text, its
+   walk, and one check of the memory. The walk scans too, so the scan is counted twice in the sum; it is small beside the others. */
+#include <string.h>
+#include "texts.h"
+#include "timing.h"
+#include "sets.h"
+#include <stdbool.h>
+
+extern uint64_t bench_scan(const uint8_t *text, size_t length);
+extern uint64_t bench_declare(const uint8_t *text, size_t length);
+extern bool bench_well_formed(const uint8_t *memory, size_t length);
+extern uint64_t bench_add(uint8_t *memory, size_t length, const uint8_t *text, size_t text_length);
+extern uint64_t bench_replace(uint8_t *memory, size_t length, size_t place, const uint8_t *text, size_t text_length);
+
+static struct set before, work_set;
+static size_t at_place;
+
+/* Each call begins with the same set; the copy is timed with both sides. */
+static uint64_t add(const uint8_t *text, size_t length) {
+    memcpy(work_set.bytes, before.bytes, LENGTH);
+    return bench_add(work_set.bytes, LENGTH, text, length);
+}
+
+static uint64_t replace(const uint8_t *text, size_t length) {
+    memcpy(work_set.bytes, before.bytes, LENGTH);
+    return bench_replace(work_set.bytes, LENGTH, at_place, text, length);
+}
+
+static uint64_t parts(const uint8_t *text, size_t length) {
+    memcpy(work_set.bytes, before.bytes, LENGTH);
+    return bench_scan(text, length) + bench_declare(text, length) + bench_well_formed(work_set.bytes, LENGTH);
+}
+
+static void measure(const char *name, work call, const uint8_t *text, size_t length) {
+    if (!call(text, length)) {
+        printf("%s is refused\n", name);
+        return;
+    }
+    compare(name, call, parts, text, length);
+}
+
+int main(void) {
+    static uint8_t text[32768];
+    char name[64];
+    size_t n = record_of(text, sizeof text, 5);
+    measure("add, empty set", add, text, n);
+    record(&before, "a.Summary", 5, "field_");
+    measure("add, small set", add, text, n);
+    at_place = 0;
+    measure("replace, small set", replace, text, n);
+    memset(&before, 0, sizeof before);
+    for (unsigned k = 0; k < 31; k++) {
+        sprintf(name, "a.Summary%u", k);
+        record(&before, name, 15, "field_");
+    }
+    measure("add, 31 declarations", add, text, n);
+    at_place = 0;
+    measure("replace, first of 31", replace, text, n);
+    at_place = 30;
+    measure("replace, last of 31", replace, text, n);
+    return 0;
+}
