@@ -3,7 +3,7 @@
 use mathlib.Core.Path.{_≡_, refl, sym, ap, ap₂, _∙_}
 use mathlib.Core.Bool.{Bool, true, false, cond}
 use mathlib.Core.List.{List, [], _∷_, _++_}
-use Prim.Native.Nat.{ℕ, zero, suc, _+_, _-_, _<_, _≤_}
+use Prim.Native.Nat.{ℕ, zero, suc, _+_, _-_, _*_, _<_, _≤_}
 use native.Mathlib.Nat.{sub-zero}
 use native.Mathlib.Decide.{decLe}
 use native.Mathlib.Omega.{arith}
@@ -65,6 +65,11 @@ module _ (ds : List (List Row)) (k : ℕ) (l : k < length ds) where
       let b = flat (drop (suc k) ds) in
       let e : length (texts (flat ds)) ≡ length (texts a ++ (texts (rowsAt ds k) ++ texts b)) = ap (λ (x : List Row). length (texts x)) flat-around ∙ ap length (texts-append a (rowsAt ds k ++ b) ∙ ap (λ (x : List ℕ). texts a ++ x) (texts-append (rowsAt ds k) b)) in
       omega (arith, e, length-append (texts a) (texts (rowsAt ds k) ++ texts b), length-append (texts (rowsAt ds k)) (texts b))
+
+  -- by the counts of the set
+  pub set-short : length (canonicalOf (rowsAt ds k)) ≤ 64 * length (flat ds) + length (texts (flat ds))
+  unfolding canonicalOf
+  set-short = omega (arith, text-short (length (rowsAt ds k)) (rowsAt ds k), rows-around, texts-around)
 
   is-declaration : every isDeclaration ds ≡ true → isDeclaration (rowsAt ds k) ≡ true
   unfolding every

@@ -11,7 +11,7 @@ use borrow.Author.Tests.{lt-leb}
 use Rattle.answer.specs.declared.refusal.Why.the-variants.{NoRoom}
 use Rattle.ground.proofs.Laws.{never, and-true, store-fits}
 use Rattle.row.specs.Rows.{Row, texts}
-use Rattle.row.specs.Sets.{decode}
+use Rattle.row.specs.Sets.{flat, decode}
 use Rattle.row.specs.declared.kind.Kind.{Kind}
 use Rattle.row.specs.declared.kind.Kind.the-variants.{Null, Boolean, Int, Long, Float, Double, Bytes, String, Reference, Array, Map, Union, Record, Enum, Fixed, Field, Symbol, Alias, FieldAlias}
 use Rattle.resolve.specs.Kinds.{isKind, isSchema}
@@ -22,7 +22,7 @@ use Rattle.canonical.specs.Canonical.{isWritten, partsOf, listed, textOf
 use Rattle.canonical.specs.Calls.{found, refused, refusal, rowsAt, textAt, writtenAt, bufferAfter}
 use Rattle.canonical.specs.Walk.{textLimit}
 use Rattle.canonical.proofs.TextLaws.{text-short}
-use Rattle.canonical.proofs.CallLaws.{canonical-short}
+use Rattle.canonical.proofs.CallLaws.{set-short, canonical-short}
 use Rattle.canonical.proofs.SameLaws.{schema-written}
 -- more fuel than there are rows changes nothing
 pub use Rattle.canonical.proofs.FuelLaws.{enough}
@@ -37,6 +37,10 @@ pub use Rattle.canonical.proofs.PrintLaws.{printable}
 pub bound : (rows : List Row) → length (canonicalOf rows) ≤ 64 * length rows + length (texts rows)
 unfolding canonicalOf
 bound rows = text-short (length rows) rows
+
+-- a declaration of a set: by the set's counts
+pub counts-bound : (ds : List (List Row)) (place : ℕ) → place < length ds → length (canonicalOf (rowsAt ds place)) ≤ 64 * length (flat ds) + length (texts (flat ds))
+counts-bound ds place l = set-short ds place l
 
 -- the declaration at a place of a well-formed set: 81,920 bytes at most
 pub place-bound : (m : List ℕ) (place : ℕ) → wellFormed m ≡ true → place < length (decode m) → length (canonicalOf (rowsAt (decode m) place)) ≤ textLimit

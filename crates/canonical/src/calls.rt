@@ -35,7 +35,7 @@ fn write_declaration(mem: &[u8], place: usize, part: &mut [u8]) -> usize
     write_piece(mem, start, start + n, n, part)
 }
 
-// How long the canonical text of the declaration at a place is: no byte of it has room.
+// How long the canonical text of the declaration at a place is: written where there is no room.
 pub fn canonical_length(mem: &[u8], place: usize) -> Written
     ensures { λ r. ⌜ r ≡ lengthOf (textAt (now (mem .entry)) place) ⌝ }
 {

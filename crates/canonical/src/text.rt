@@ -38,7 +38,7 @@ fn depth_at(mem: &[u8], i: usize) -> usize
     e.depth as usize
 }
 
-// Does row i stand under a row of a depth, behind which all rows from there to i stand under it?
+// Does row i, like all rows between, still stand under the row of a depth?
 fn is_under(mem: &[u8], end: usize, depth: usize, i: usize) -> bool
     requires { ⌜ (length (now mem) ≡ layoutLength) × (end ≤ rowLimit) ⌝ }
     ensures { λ r. ⌜ r ≡ isUnder (now (mem .entry)) end depth i ⌝ }
@@ -49,7 +49,7 @@ fn is_under(mem: &[u8], end: usize, depth: usize, i: usize) -> bool
     depth < depth_at(mem, i)
 }
 
-// Is it one of its parts?
+// Is it one of that row's parts?
 fn is_part(mem: &[u8], depth: usize, i: usize) -> bool
     requires { ⌜ (length (now mem) ≡ layoutLength) × (i < rowLimit) × (depth < 65536) ⌝ }
     ensures { λ r. ⌜ r ≡ isPart (now (mem .entry)) depth i ⌝ }
@@ -71,7 +71,7 @@ fn comma(first: bool, at: usize, part: &mut [u8]) -> usize
     put(part, at, b",")
 }
 
-// The parts of a row of a depth: of the rows from `start` on that stand under it, those one deeper.
+// The parts of a row of a depth, with commas between: of the rows from `start` on that stand under it, those one deeper.
 fn write_parts(
     mem: &[u8],
     start: usize,
@@ -98,7 +98,7 @@ fn write_parts(
     at
 }
 
-// Row i, of a declaration that ends before `end`.
+// Row i with what stands under it, `left` rows deep at most, in a declaration that ends before `end`.
 pub(crate) fn write_piece(mem: &[u8], i: usize, end: usize, left: usize, part: &mut [u8]) -> usize
     requires { ⌜ (length (now mem) ≡ layoutLength) × (i < end) × (end ≤ rowLimit) × (length (pieceText (now mem) left i end) ≤ textLimit) ⌝ }
     ensures { λ r. ⌜ Wrote (now (part .entry)) 0 (now (part .exit)) r (pieceText (now (mem .entry)) left i end) ⌝ }

@@ -26,15 +26,16 @@ use Rattle.resolve.specs.WellFormed.{Good, wellFormed}
 use Rattle.resolve.proofs.Laws.{cut-good, good-within, encode-good}
 use Rattle.schema.specs.declared.walked.Walked.{Walked}
 use Rattle.schema.specs.declared.walked.Walked.the-variants.{Read, Bad}
+use Rattle.schema.specs.Out.{Out}
 use Rattle.schema.specs.Schema.{declared}
 use Rattle.schema.specs.Did.{Did}
 use Rattle.set.specs.Lists.{Result, refuse, next, onRows, append, appendAll, addTo, replaceIn}
 use Rattle.set.specs.Calls.{answerOf, memoryOf, onSet, opened, added, replaced}
-use Rattle.set.specs.Steps.{Drafted, IsDraft, Ended}
+use Rattle.set.specs.Steps.{Drafted, IsDraft, Wrote, Ended}
 use Rattle.set.proofs.Places.{is-good, is-long, is-count}
 use Rattle.set.proofs.Appends.{ended-no, ended-done, ended-as}
 use Rattle.set.proofs.Rests.{told-no, told-done, Stepped, stepped}
-use Rattle.set.proofs.Drafts.{read-not, Written, written, is-draft}
+use Rattle.set.proofs.Drafts.{read-not, read-rows, is-draft}
 
 -- what a public call promises, of what its parts did
 pub both : {m m′ : List ℕ} {r : Answer} {x : Result} → Ended m m′ r x → (r ≡ answerOf x) × (m′ ≡ memoryOf m x)
@@ -82,19 +83,19 @@ module _ (m t : List ℕ) where
       unfolding added addTo
       add-is = set-well m 0 (λ ds. addTo ds t) w ∙ rw (← count-is, lt-ltb n declarationLimit l)
 
-      module _ (z : ℕ) (d : List ℕ) (walked : Walked) (long : z ≡ layoutLength) (did : Did (zeros z) noCounts d walked (declared t)) (same : length d ≡ layoutLength) where
+      module _ {d : List ℕ} {walked : Walked} (did : Wrote d walked (declared t)) where
         pub add-bad : {f : Fault} → walked ≡ Bad f → {r : Refusal} → r ≡ placed f n → (Refused r ≡ answerOf (added m t)) × (m ≡ memoryOf m (added m t))
-        add-bad h g = rw g (both (ended-no m _ (add-is ∙ rw (read-not t z d walked long did same h))))
+        add-bad h g = rw g (both (ended-no m _ (add-is ∙ rw (read-not (declared t) did h))))
 
         pub add-asks : (c : Counts) → walked ≡ Read c → (wellFormed m ≡ true) × (countIn m < declarationLimit) × IsDraft d 0 (c .rows) (c .«string_bytes»)
-        add-asks c h = (w, omega arith, is-draft t z d walked long did same c h)
+        add-asks c h = (w, omega arith, is-draft (declared t) did h)
 
         pub add-rows : (c : Counts) → walked ≡ Read c → {r : Answer} {m′ : List ℕ}
             → ((rows : List Row) → Drafted d 0 (c .rows) (c .«string_bytes») rows → Ended m m′ r (append (decode m) rows))
             → (r ≡ answerOf (added m t)) × (m′ ≡ memoryOf m (added m t))
         add-rows c h end =
-            let x : Written t z d walked long did same c = written t z d walked long did same c h in
-            both (ended-as (add-is ∙ rw (x .is)) (end (x .rows) (x .drafted)))
+            let x = read-rows (declared t) did h in
+            both (ended-as (add-is ∙ ap (λ (o : Out). onRows o n (append (decode m))) (x .1)) (end (x .0) (x .2)))
 
 -- ---- replace, its text being read
 
@@ -176,16 +177,16 @@ module _ (m : List ℕ) (place : ℕ) (t : List ℕ) where
       unfolding replaced replaceIn
       replace-is = set-well m place (λ ds. replaceIn ds place t) w ∙ rw (← is-count m w, ← e, lt-ltb place n l)
 
-      module _ (z : ℕ) (d : List ℕ) (walked : Walked) (long : z ≡ layoutLength) (did : Did (zeros z) noCounts d walked (declared t)) (same : length d ≡ layoutLength) where
+      module _ {d : List ℕ} {walked : Walked} (did : Wrote d walked (declared t)) where
         pub replace-bad : {f : Fault} → walked ≡ Bad f → {r : Refusal} → r ≡ placed f place → (Refused r ≡ answerOf (replaced m place t)) × (m ≡ memoryOf m (replaced m place t))
-        replace-bad h g = rw g (both (ended-no m _ (replace-is ∙ rw (read-not t z d walked long did same h))))
+        replace-bad h g = rw g (both (ended-no m _ (replace-is ∙ rw (read-not (declared t) did h))))
 
         pub replace-asks : (c : Counts) → walked ≡ Read c → (wellFormed m ≡ true) × (place < countIn m) × IsDraft d 0 (c .rows) (c .«string_bytes»)
-        replace-asks c h = (w, omega arith, is-draft t z d walked long did same c h)
+        replace-asks c h = (w, omega arith, is-draft (declared t) did h)
 
         pub replace-rows : (c : Counts) → walked ≡ Read c → {r : Answer} {m′ : List ℕ}
             → ((rows : List Row) → Drafted d 0 (c .rows) (c .«string_bytes») rows → Ended m m′ r (appendAll (take place (decode m)) (rows ∷ drop (place + 1) (decode m))))
             → (r ≡ answerOf (replaced m place t)) × (m′ ≡ memoryOf m (replaced m place t))
         replace-rows c h end =
-            let x : Written t z d walked long did same c = written t z d walked long did same c h in
-            both (ended-as (replace-is ∙ rw (x .is)) (end (x .rows) (x .drafted)))
+            let x = read-rows (declared t) did h in
+            both (ended-as (replace-is ∙ ap (λ (o : Out). onRows o place (λ rows. appendAll (take place (decode m)) (rows ∷ drop (place + 1) (decode m)))) (x .1)) (end (x .0) (x .2)))

@@ -1,6 +1,6 @@
 -- A draft that the walk wrote stands for the rows of the text.
 -- Assumes nothing.
-use mathlib.Core.Path.{_≡_, refl, sym, ap, ap₂, _∙_}
+use mathlib.Core.Path.{_≡_, refl, sym, ap, ap₂, subst, _∙_}
 use mathlib.Core.Bool.{Bool, true, false, cond}
 use mathlib.Core.List.{List}
 use Prim.Native.Nat.{ℕ, _+_, _≤_, min}
@@ -29,7 +29,7 @@ use Rattle.schema.specs.Schema.{rowsOf, onScan, declared}
 use Rattle.schema.specs.Did.{Did}
 use Rattle.resolve.specs.Rules.{isDeclaration}
 use Rattle.kept.proofs.Kept.{kept}
-use Rattle.set.specs.Steps.{Drafted, IsDraft}
+use Rattle.set.specs.Steps.{Drafted, IsDraft, Wrote′, Wrote}
 use Rattle.set.proofs.Fitting.{declaration-fits}
 
 -- ---- a text that is read
@@ -39,7 +39,7 @@ unfolding scanned
 scan-short t e = go (ltb longest (length t)) refl e
   where
     go : (b : Bool) → ltb longest (length t) ≡ b → cond b (json.fault TextTooLong longest) (verdict t) ≡ Whole → length t ≤ 32768
-    go true f h = let z : _≡_ {A = ℕ} 0 1 = cc in absurd (omega arith)
+    go true f h = let o : _≡_ {A = ℕ} 0 1 = cc in absurd (omega arith)
     go false f h = ltb-false longest (length t) f
 
 -- its rows keep the rules
@@ -49,53 +49,50 @@ declared-kept t rows e = go (scanned t) refl e
   where
     go : (s : Scan) → scanned t ≡ s → onScan s (rowsOf t) ≡ read rows → isDeclaration rows ≡ true
     go Whole p q = kept t rows (scan-short t p) q
-    go (scan.Bad f) p q = let z : _≡_ {A = ℕ} 0 1 = cc in absurd (omega arith)
+    go (scan.Bad f) p q = let o : _≡_ {A = ℕ} 0 1 = cc in absurd (omega arith)
 
--- ---- the draft z, zero before, that a walk left as d with the counts c
+-- ---- a draft of the layout's length, cleared, that a walk left as d
 
-module _ (t : List ℕ) (n : ℕ) (d : List ℕ) (r : Walked) (long : n ≡ layoutLength) (did : Did (zeros n) noCounts d r (declared t)) (same : length d ≡ layoutLength) where
-  pub read-not : {f : Fault} → r ≡ Bad f → declared t ≡ refused f
-  read-not {f} e = go (declared t) refl did
-    where
-      go : (o : Out) → declared t ≡ o → Did (zeros n) noCounts d r o → declared t ≡ refused f
-      go (refused g) p x = p ∙ cc
-      go (read rows) p x = let z : _≡_ {A = ℕ} 0 1 = cc in absurd (omega arith)
-
-  pub record Written (c : Counts) : Type 0 where
-    pub rows : List Row
-    pub is : declared t ≡ read rows
-    pub drafted : Drafted d 0 (c .rows) (c .«string_bytes») rows
-
-  written-rows : (rows : List Row) → declared t ≡ read rows → (c : Counts) → c ≡ countedAll noCounts rows → d ≡ pushedAll (zeros n) noCounts rows → Written c
-  written-rows rows e c p q =
+module _ (t d : List ℕ) (n : ℕ) (r : Walked) (long : n ≡ layoutLength) (did : Did (zeros n) noCounts d r (declared t)) (same : length d ≡ n) where
+  written : (rows : List Row) → declared t ≡ read rows → r ≡ Read (countedAll noCounts rows) → d ≡ pushedAll (zeros n) noCounts rows → Wrote′ d r (read rows)
+  written rows e p q =
       let k : isDeclaration rows ≡ true = declared-kept t rows e in
-      let a : c ≡ countsOf 0 (min (0 + length rows) most) (min (0 + length (texts rows)) most) = p ∙ counted-all rows 0 0 0 (omega arith) (omega arith) in
-      let x : c .rows ≡ min (length rows) most = ap (λ (y : Counts). y .rows) a ∙ omega arith in
-      let y : c .«string_bytes» ≡ min (length (texts rows)) most = ap (λ (y : Counts). y .«string_bytes») a ∙ omega arith in
-      record {
-        rows = rows;
-        is = e;
-        drafted = record {
-          counted = x;
-          strings = y;
+      let c : Counts = countsOf 0 (min (0 + length rows) most) (min (0 + length (texts rows)) most) in
+      let a : countedAll noCounts rows ≡ c = counted-all rows 0 0 0 (omega arith) (omega arith) in (
+        c,
+        p ∙ ap Read a,
+        record {
+          counted = omega arith;
+          strings = omega arith;
           kept = k;
-          long = same;
+          long = same ∙ long;
           fits = λ (h : c .rows ≤ rowLimit) (j : c .«string_bytes» ≤ stringLimit).
               (let l : length rows ≤ rowLimit = omega arith in
               let v : c .rows ≡ length rows = omega arith in
               (omega arith, ap₂ (λ (b : List ℕ) (i : ℕ). rowsFrom b i 0) (q ∙ ap (λ (i : ℕ). pushedAll (zeros i) noCounts rows) long) v ∙ draft-rows rows l (omega arith) (declaration-fits rows k l)));
-        };
-      }
+        },
+      )
 
-  pub written : (c : Counts) → r ≡ Read c → Written c
-  written c e = go (declared t) refl did
+  pub wrote : Wrote d r (declared t)
+  wrote = go (declared t) refl did
     where
-      go : (o : Out) → declared t ≡ o → Did (zeros n) noCounts d r o → Written c
-      go (refused g) p x = let z : _≡_ {A = ℕ} 0 1 = cc in absurd (omega arith)
-      go (read rows) p x =
-          let q : Read c ≡ Read (countedAll noCounts rows) = sym e ∙ x .did .0 in
-          let k : c ≡ countedAll noCounts rows = cc in
-          written-rows rows p c k (x .did .1)
+      go : (o : Out) → declared t ≡ o → Did (zeros n) noCounts d r o → Wrote d r o
+      go (refused f) e x = record { wrote = x .did }
+      go (read rows) e x = record { wrote = written rows e (x .did .0) (x .did .1) }
 
-  pub is-draft : (c : Counts) → r ≡ Read c → IsDraft d 0 (c .rows) (c .«string_bytes»)
-  is-draft c e = let w = written c e in record { rows = w .rows; drafted = w .drafted }
+-- ---- what the answer tells
+
+module _ {d : List ℕ} {r : Walked} where
+  pub read-not : (o : Out) → Wrote d r o → {f : Fault} → r ≡ Bad f → o ≡ refused f
+  read-not (refused g) x e = let y : Bad g ≡ Bad _ = sym (x .wrote) ∙ e in cc
+  read-not (read rows) x e = let y : Read (x .wrote .0) ≡ Bad _ = sym (x .wrote .1) ∙ e in let z : _≡_ {A = ℕ} 0 1 = cc in absurd (omega arith)
+
+  pub read-rows : (o : Out) → Wrote d r o → {c : Counts} → r ≡ Read c → (rows : List Row) × (o ≡ read rows) × Drafted d 0 (c .rows) (c .«string_bytes») rows
+  read-rows (refused g) x e = let y : Bad g ≡ Read _ = sym (x .wrote) ∙ e in let z : _≡_ {A = ℕ} 0 1 = cc in absurd (omega arith)
+  read-rows (read rows) x {c} e =
+      let y : Read (x .wrote .0) ≡ Read c = sym (x .wrote .1) ∙ e in
+      let z : x .wrote .0 ≡ c = cc in
+      (rows, refl, subst (λ (k : Counts). Drafted d 0 (k .rows) (k .«string_bytes») rows) z (x .wrote .2))
+
+  pub is-draft : (o : Out) → Wrote d r o → {c : Counts} → r ≡ Read c → IsDraft d 0 (c .rows) (c .«string_bytes»)
+  is-draft o x e = let w = read-rows o x e in record { rows = w .0; drafted = w .2 }

@@ -13,6 +13,9 @@ use Rattle.row.specs.Rows.{Row, texts}
 use Rattle.row.specs.Sets.{rowsFrom}
 use Rattle.row.specs.Memory.{most, countedAll, pushedAll, declared}
 use Rattle.resolve.specs.Rules.{isDeclaration}
+use Rattle.schema.specs.Out.{Out, refused, read}
+use Rattle.schema.specs.declared.walked.Walked.{Walked}
+use Rattle.schema.specs.declared.walked.Walked.the-variants.{Read, Bad}
 use Rattle.set.specs.Lists.{Result}
 use Rattle.set.specs.Calls.{answerOf, memoryOf}
 
@@ -35,6 +38,14 @@ pub record Drafted («from» : List ℕ) (start n bytes : ℕ) (rows : List Row)
 pub record IsDraft («from» : List ℕ) (start n bytes : ℕ) : Type 0 where
   pub rows : List Row
   pub drafted : Drafted «from» start n bytes rows
+
+-- a draft d that was written for a text that gives o, and the answer r: the text's fault, or counts that with the draft stand for its rows
+abbrev pub Wrote′ : List ℕ → Walked → Out → Type 0
+Wrote′ d r (refused f) = r ≡ Bad f
+Wrote′ d r (read rows) = (c : Counts) × (r ≡ Read c) × Drafted d 0 (c .rows) (c .«string_bytes») rows
+
+pub record Wrote (d : List ℕ) (r : Walked) (o : Out) : Type 0 where
+  pub wrote : Wrote′ d r o
 
 -- memory that held m holds m′, and the answer is r: what became of the set is x
 pub record Ended (m m′ : List ℕ) (r : Answer) (x : Result) : Type 0 where

@@ -20,14 +20,15 @@ ghost use mathlib.Core.Path.{_≡_};
 ghost use mathlib.Core.Bool.{true};
 ghost use mathlib.Core.List.{List, _∷_};
 ghost use Prim.Native.Nat.{_+_, _≤_, _<_};
-ghost use lib.ListN.{take, drop};
+ghost use lib.ListN.{length, take, drop};
 ghost use Rattle.row.specs.Layout.{layoutLength};
 ghost use Rattle.row.specs.Rows.{Row};
 ghost use Rattle.row.specs.Sets.{zeros, countIn, encode, decode};
+ghost use Rattle.schema.specs.Schema.{declared};
 ghost use Rattle.resolve.specs.WellFormed.{wellFormed};
 ghost use Rattle.set.specs.Lists.{appendAll};
 ghost use Rattle.set.specs.Calls.{answerOf, memoryOf, opened, added, replaced};
-ghost use Rattle.set.specs.Steps.{Drafted, IsDraft, Ended};
+ghost use Rattle.set.specs.Steps.{Drafted, IsDraft, Wrote, Ended};
 
 // Memory of the layout's length becomes the empty set, whatever it held.
 pub fn open(mem: &mut [u8]) -> Answer
@@ -39,6 +40,14 @@ pub fn open(mem: &mut [u8]) -> Answer
     }
     clear(mem);
     Answer::Done(Counts::none())
+}
+
+// The rows of a text in a draft, or its first fault.
+fn read_text(text: &[u8], draft: &mut [u8]) -> Walked
+    requires { ⌜ length (now draft) ≡ layoutLength ⌝ }
+    ensures { λ r. ⌜ Wrote (now (draft .exit)) r (declared (now (text .entry))) ⌝ }
+{
+    declare(text, draft)
 }
 
 // One declaration more, by its text.
@@ -54,7 +63,7 @@ pub fn add(mem: &mut [u8], text: &[u8]) -> Answer
         return refused(Why::TooManyDeclarations, Counts::DECLARATIONS);
     }
     let mut draft = [0u8; Layout::LENGTH];
-    let read = declare(text, &mut draft);
+    let read = read_text(text, &mut draft);
     match read {
         Walked::Bad(f) => Answer::Refused(f.placed(place)),
         Walked::Read(c) => append(mem, &draft, 0, c.rows, c.string_bytes),
@@ -133,7 +142,7 @@ pub fn replace(mem: &mut [u8], place: usize, text: &[u8]) -> Answer
         return refused(Why::NoSuchPlace, place);
     }
     let mut draft = [0u8; Layout::LENGTH];
-    let read = declare(text, &mut draft);
+    let read = read_text(text, &mut draft);
     match read {
         Walked::Bad(f) => Answer::Refused(f.placed(place)),
         Walked::Read(c) => replace_by(mem, place, &draft, c.rows, c.string_bytes),

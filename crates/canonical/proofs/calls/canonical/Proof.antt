@@ -1,6 +1,7 @@
 -- `canonical::calls::canonical` meets its contract: what the length says, 29, the text.
 -- Assumes nothing.
 use mathlib.Core.Path.{sym, ap, _∙_}
+use native.Mathlib.Omega.{arith}
 use borrow.Author.Tests.{not-true, not-false}
 use borrow.Author.Needs.{needs}
 use Rattle.canonical.specs.declared.answers.Written.the-variants.{Refused}
@@ -29,11 +30,11 @@ returns c =
 
 sub-write-declaration : tie.Need-sub-write-declaration
 sub-write-declaration c =
-    canonical-room _ _ _ (c .before .before .before .before .before .before .before .before .args .buffer .now) _ (sym (c .before .before .before .n .given .1) ∙ c .before .before .before .before .before .canonical-length .ensures) (sym (c .before .has-room .ensures) ∙ not-false _ (c .if1 .left))
+    omega (arith, canonical-room _ _ _ (c .before .before .before .before .before .before .before .before .args .buffer .now) _ (sym (c .before .before .before .n .given .1) ∙ c .before .before .before .before .before .canonical-length .ensures) (sym (c .before .has-room .ensures) ∙ not-false _ (c .if1 .left)))
 
 part-write-declaration-start : tie.Need-part-write-declaration-start
 part-write-declaration-start c =
-    canonical-room _ _ _ (c .before .before .before .before .before .before .before .before .args .buffer .now) _ (sym (c .before .before .before .n .given .1) ∙ c .before .before .before .before .before .canonical-length .ensures) (sym (c .before .has-room .ensures) ∙ not-false _ (c .if1 .left))
+    omega (arith, canonical-room _ _ _ (c .before .before .before .before .before .before .before .before .args .buffer .now) _ (sym (c .before .before .before .n .given .1) ∙ c .before .before .before .before .before .canonical-length .ensures) (sym (c .before .has-room .ensures) ∙ not-false _ (c .if1 .left)))
 
 part-write-declaration-end : tie.Need-part-write-declaration-end
 part-write-declaration-end c = search needs

@@ -1,6 +1,7 @@
 -- `canonical::calls::canonical_length` meets its contract: 20, 21, the length.
 -- Assumes nothing.
 use mathlib.Core.Path.{sym, ap, _∙_}
+use native.Mathlib.Omega.{arith}
 use borrow.Author.Tests.{not-true, not-false}
 use borrow.Author.Needs.{needs}
 use Rattle.canonical.specs.declared.answers.Written.the-variants.{Refused}
@@ -26,18 +27,18 @@ refusal-requires-2 c κs = search needs
 
 returns-2 : tie.Need-returns-2
 returns-2 c =
-    ap Refused (c .refusal2 .ensures) ∙ length-absent _ _ (sym (c .before .before .before .before .well-formed .ensures) ∙ not-false _ (c .before .before .before .if1 .left)) _ (c .before .before .declarations .ensures) (c .before .if2 .taken)
+    ap Refused (c .refusal2 .ensures) ∙ length-absent _ _ (sym (c .before .before .before .before .well-formed .ensures) ∙ not-false _ (c .before .before .before .if1 .left)) _ (c .before .before .declarations .ensures) (omega (arith, c .before .if2 .taken))
 
 slice-aggregate-write-declaration : tie.Need-slice-aggregate-write-declaration
 slice-aggregate-write-declaration c = search needs
 
 write-declaration-requires : tie.Need-write-declaration-requires
 write-declaration-requires c κs =
-    ((sym (c .before .before .before .before .well-formed .ensures) ∙ not-false _ (c .before .before .before .if1 .left)), place-counted _ _ (sym (c .before .before .before .before .well-formed .ensures) ∙ not-false _ (c .before .before .before .if1 .left)) _ (c .before .before .declarations .ensures) (c .before .if2 .left))
+    ((sym (c .before .before .before .before .well-formed .ensures) ∙ not-false _ (c .before .before .before .if1 .left)), place-counted _ _ (sym (c .before .before .before .before .well-formed .ensures) ∙ not-false _ (c .before .before .before .if1 .left)) _ (c .before .before .declarations .ensures) (omega (arith, c .before .if2 .left)))
 
 returns-3 : tie.Need-returns-3
 returns-3 c =
-    length-found _ _ (sym (c .before .before .before .before .before .before .well-formed .ensures) ∙ not-false _ (c .before .before .before .before .before .if1 .left)) (place-counted _ _ (sym (c .before .before .before .before .before .before .well-formed .ensures) ∙ not-false _ (c .before .before .before .before .before .if1 .left)) _ (c .before .before .before .before .declarations .ensures) (c .before .before .before .if2 .left)) _ (c .before .write-declaration .ensures .end)
+    length-found _ _ (sym (c .before .before .before .before .before .before .well-formed .ensures) ∙ not-false _ (c .before .before .before .before .before .if1 .left)) (place-counted _ _ (sym (c .before .before .before .before .before .before .well-formed .ensures) ∙ not-false _ (c .before .before .before .before .before .if1 .left)) _ (c .before .before .before .before .declarations .ensures) (omega (arith, c .before .before .before .if2 .left))) _ (c .before .write-declaration .ensures .end)
 
 pub canonical-length-spec : {M : Type 1} → statement M
 canonical-length-spec =

@@ -1,6 +1,6 @@
 -- `set::calls::replace` meets its contract.
 -- Assumes nothing.
-use mathlib.Core.Path.{refl, sym, _∙_}
+use mathlib.Core.Path.{sym, _∙_}
 use Rattle.set.proofs.Places.{is-long}
 use Rattle.set.proofs.CallLaws.{replace-not, replace-place, replace-asks, replace-bad, replace-rows}
 use borrow.Author.Needs.{needs}
@@ -33,11 +33,11 @@ returns-2 : tie.Need-returns-2
 returns-2 c =
     replace-place _ _ _ (sym (c .before .before .before .before .before .well-formed .ensures) ∙ not-false _ (c .before .before .before .before .if1 .left)) _ (c .before .before .declarations .ensures) (c .before .if2 .taken) (c .refused2 .ensures)
 
-slice-aggregate-declare : tie.Need-slice-aggregate-declare
-slice-aggregate-declare c = search needs
+slice-aggregate-read-text : tie.Need-slice-aggregate-read-text
+slice-aggregate-read-text c = search needs
 
-declare-requires : tie.Need-declare-requires
-declare-requires c κs = search needs
+read-text-requires : tie.Need-read-text-requires
+read-text-requires c κs = search needs
 
 enum-known-read : tie.Need-enum-known-read
 enum-known-read c = search needs
@@ -53,21 +53,21 @@ slice-aggregate-replace-by c = search needs
 
 replace-by-requires : tie.Need-replace-by-requires
 replace-by-requires c κs =
-    replace-asks _ _ _ (sym (c .before .before .before .before .before .before .before .before .before .before .before .before .well-formed .ensures) ∙ not-false _ (c .before .before .before .before .before .before .before .before .before .before .before .if1 .left)) _ (c .before .before .before .before .before .before .before .before .before .declarations .ensures) (c .before .before .before .before .before .before .before .before .if2 .left) _ _ _ refl (c .before .before .before .before .before .before .declare .ensures) (c .before .before .before .before .before .before .declare .kept .1 .0) _ (c .before .before .before .read2 .given .1)
+    replace-asks _ _ _ (sym (c .before .before .before .before .before .before .before .before .before .before .before .before .well-formed .ensures) ∙ not-false _ (c .before .before .before .before .before .before .before .before .before .before .before .if1 .left)) _ (c .before .before .before .before .before .before .before .before .before .declarations .ensures) (c .before .before .before .before .before .before .before .before .if2 .left) (c .before .before .before .before .before .before .read-text .ensures) _ (c .before .before .before .read2 .given .1)
 
 same-length-3 : tie.Need-same-length-3
 same-length-3 c = search needs
 
 returns-3 : tie.Need-returns-3
 returns-3 c =
-    replace-bad _ _ _ (sym (c .before .before .before .before .before .before .before .before .before .before .before .well-formed .ensures) ∙ not-false _ (c .before .before .before .before .before .before .before .before .before .before .if1 .left)) _ (c .before .before .before .before .before .before .before .before .declarations .ensures) (c .before .before .before .before .before .before .before .if2 .left) _ _ _ refl (c .before .before .before .before .before .declare .ensures) (c .before .before .before .before .before .declare .kept .1 .0) (c .before .before .read .given .1) (c .placed .ensures)
+    replace-bad _ _ _ (sym (c .before .before .before .before .before .before .before .before .before .before .before .well-formed .ensures) ∙ not-false _ (c .before .before .before .before .before .before .before .before .before .before .if1 .left)) _ (c .before .before .before .before .before .before .before .before .declarations .ensures) (c .before .before .before .before .before .before .before .if2 .left) (c .before .before .before .before .before .read-text .ensures) (c .before .before .read .given .1) (c .placed .ensures)
 
 same-length-4 : tie.Need-same-length-4
 same-length-4 c = search needs
 
 returns-4 : tie.Need-returns-4
 returns-4 c =
-    replace-rows _ _ _ (sym (c .before .before .before .before .before .before .before .before .before .before .before .before .before .before .before .well-formed .ensures) ∙ not-false _ (c .before .before .before .before .before .before .before .before .before .before .before .before .before .before .if1 .left)) _ (c .before .before .before .before .before .before .before .before .before .before .before .before .declarations .ensures) (c .before .before .before .before .before .before .before .before .before .before .before .if2 .left) _ _ _ refl (c .before .before .before .before .before .before .before .before .before .declare .ensures) (c .before .before .before .before .before .before .before .before .before .declare .kept .1 .0) _ (c .before .before .before .before .before .before .read2 .given .1) (c .before .before .replace-by .ensures)
+    replace-rows _ _ _ (sym (c .before .before .before .before .before .before .before .before .before .before .before .before .before .before .before .well-formed .ensures) ∙ not-false _ (c .before .before .before .before .before .before .before .before .before .before .before .before .before .before .if1 .left)) _ (c .before .before .before .before .before .before .before .before .before .before .before .before .declarations .ensures) (c .before .before .before .before .before .before .before .before .before .before .before .if2 .left) (c .before .before .before .before .before .before .before .before .before .read-text .ensures) _ (c .before .before .before .before .before .before .read2 .given .1) (c .before .before .replace-by .ensures)
 
 pub replace-spec : {M : Type 1} → statement M
 replace-spec =
@@ -81,8 +81,8 @@ replace-spec =
     refused-requires-2
     same-length-2
     returns-2
-    slice-aggregate-declare
-    declare-requires
+    slice-aggregate-read-text
+    read-text-requires
     enum-known-read
     placed-requires
     enum-known-read-2
