@@ -1,0 +1,4 @@
+// The examples of docs/NAMES.md.
+fn main() {
+    replays::run();
+}

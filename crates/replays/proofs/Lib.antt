@@ -1,0 +1,2 @@
+mod MemoryLaws
+mod PlaceLaws
