@@ -1,6 +1,8 @@
 mod Places
+mod Closing
 mod Visits
 mod Undone
+mod Plain
 mod Digits
 mod OnePass
 mod KeyNumber

@@ -2,8 +2,10 @@
 use super::bytes::is_delimiter;
 use ground::byte_at;
 ghost use mathlib.Core.Path.{_≡_};
+ghost use mathlib.Core.Bool.{_||_};
 ghost use Prim.Native.Nat.{_+_, _-_, _≤_, _<_};
-ghost use Rattle.view.specs.Ends.{literalEnd, modeAfter, depthAfter, atRest, closingOf, isBlock, endOf};
+ghost use lib.Dec.{eqb};
+ghost use Rattle.view.specs.Ends.{literalEnd, depthAfter, closingOf, endOf};
 
 fn literal_end(text: &[u8], at: usize) -> usize
     ensures { λ r. ⌜ r ≡ literalEnd (now (text .entry)) at ⌝ }
@@ -18,93 +20,102 @@ fn literal_end(text: &[u8], at: usize) -> usize
     p
 }
 
-// 0: outside of strings; 1: in a string; 2: in a string, after a backslash.
-fn mode_after(mode: u8, b: u8) -> u8
-    ensures { λ r. ⌜ r ≡ modeAfter mode b ⌝ }
-{
-    if mode == 0 {
-        if b == b'"' {
-            return 1;
-        }
-        return 0;
-    }
-    if mode == 1 {
-        if b == b'"' {
-            return 0;
-        }
-        if b == b'\\' {
-            return 2;
-        }
-        return 1;
-    }
-    1
-}
-
 fn less(d: usize) -> usize
     ensures { λ r. ⌜ r ≡ d - 1 ⌝ }
 {
     if d == 0 { 0 } else { d - 1 }
 }
 
-// How many brackets are open.
-fn depth_after(mode: u8, b: u8, d: usize) -> usize
+// How many brackets are open behind a byte outside of strings.
+fn depth_after(b: u8, d: usize) -> usize
     requires { ⌜ d < 18446744073709551615 ⌝ }
-    ensures { λ r. ⌜ (r ≡ depthAfter mode b d) × (r ≤ d + 1) ⌝ }
+    ensures { λ r. ⌜ (r ≡ depthAfter 0 b d) × (r ≤ d + 1) ⌝ }
 {
-    if mode == 0 {
-        if b == b'[' {
-            return d + 1;
-        }
-        if b == b'{' {
-            return d + 1;
-        }
-        if b == b']' {
-            return less(d);
-        }
-        if b == b'}' {
-            return less(d);
-        }
-        return d;
+    if b == b'[' {
+        return d + 1;
+    }
+    if b == b'{' {
+        return d + 1;
+    }
+    if b == b']' {
+        return less(d);
+    }
+    if b == b'}' {
+        return less(d);
     }
     d
 }
 
-fn at_rest(mode: u8, d: usize) -> bool
-    ensures { λ r. ⌜ r ≡ atRest mode d ⌝ }
-{
-    if mode == 0 {
-        return d == 0;
-    }
-    false
-}
-
-// Past the string or the bracket that opens at `at`.
-fn closing(text: &[u8], at: usize) -> usize
-    ensures { λ r. ⌜ r ≡ closingOf (now (text .entry)) 0 0 at ⌝ }
+// Past the closing quote of the string that is open at `at`. A backslash takes the byte behind it along.
+fn past_escapes(text: &[u8], at: usize) -> usize
+    ensures { λ r. ⌜ r ≡ closingOf (now (text .entry)) 1 0 at ⌝ }
 {
     let mut p = at;
-    let mut mode: u8 = 0;
-    let mut d: usize = 0;
     while p < text.len() {
         let b = text[p];
-        let m1 = mode_after(mode, b);
-        let d1 = depth_after(mode, b, d);
         p += 1;
-        if at_rest(m1, d1) {
+        if b == b'"' {
             return p;
         }
-        mode = m1;
-        d = d1;
+        if b == b'\\' {
+            if p < text.len() {
+                p += 1;
+            }
+        }
     }
     p
 }
 
-fn is_block(b: u8) -> bool
-    ensures { λ r. ⌜ r ≡ isBlock b ⌝ }
+// The same, and faster: most strings have no backslash, and most letters stand behind it.
+fn past_string(text: &[u8], at: usize) -> usize
+    ensures { λ r. ⌜ r ≡ closingOf (now (text .entry)) 1 0 at ⌝ }
 {
-    if b == b'"' {
-        return true;
+    let mut p = at;
+    while p < text.len() {
+        let b = text[p];
+        if b > b'\\' {
+            p += 1;
+            continue;
+        }
+        if b == b'"' {
+            return p + 1;
+        }
+        if b == b'\\' {
+            return past_escapes(text, p);
+        }
+        p += 1;
     }
+    p
+}
+
+// Past the bracket that closes the one that is open at `at`. No bracket stands below the first.
+fn past_bracket(text: &[u8], at: usize) -> usize
+    ensures { λ r. ⌜ r ≡ closingOf (now (text .entry)) 0 1 at ⌝ }
+{
+    let mut p = at;
+    let mut d: usize = 1;
+    while p < text.len() {
+        let b = text[p];
+        p += 1;
+        if b == b'"' {
+            p = past_string(text, p);
+            continue;
+        }
+        if b < b'[' {
+            continue;
+        }
+        d = depth_after(b, d);
+        if d == 0 {
+            return p;
+        }
+    }
+    p
+}
+
+// Does an array or an object start with this byte?
+fn is_bracket(b: u8) -> bool
+    ensures { λ r. ⌜ r ≡ (eqb b 91 || eqb b 123) ⌝ }
+{
     if b == b'[' {
         return true;
     }
@@ -115,8 +126,12 @@ fn is_block(b: u8) -> bool
 pub fn end(text: &[u8], at: usize) -> usize
     ensures { λ r. ⌜ r ≡ endOf (now (text .entry)) at ⌝ }
 {
-    if is_block(byte_at(text, at)) {
-        return closing(text, at);
+    let b = byte_at(text, at);
+    if b == b'"' {
+        return past_string(text, at + 1);
+    }
+    if is_bracket(b) {
+        return past_bracket(text, at + 1);
     }
     literal_end(text, at)
 }

@@ -12,40 +12,32 @@ add-result c = search needs
 
 returns : tie.Need-returns
 unfolding depthAfter
-returns c = (simp (eq-eqb _ _ (c .before .if1 .taken), eq-eqb _ _ (c .if2 .taken)), omega arith)
+returns c = (simp (eq-eqb _ _ (c .if1 .taken)), omega arith)
 
 add-result-2 : tie.Need-add-result-2
 add-result-2 c = search needs
 
 returns-2 : tie.Need-returns-2
 unfolding depthAfter
-returns-2 c =
-    (simp (eq-eqb _ _ (c .before .before .if1 .taken), ne-eqb _ _ (c .before .if2 .left), eq-eqb _ _ (c .if3 .taken)), omega arith)
+returns-2 c = (simp (ne-eqb _ _ (c .before .if1 .left), eq-eqb _ _ (c .if2 .taken)), omega arith)
 
 less-requires : tie.Need-less-requires
 less-requires c κs = search needs
 
 returns-3 : tie.Need-returns-3
 unfolding depthAfter
-returns-3 c =
-    (simp (eq-eqb _ _ (c .before .before .before .before .if1 .taken), ne-eqb _ _ (c .before .before .before .if2 .left), ne-eqb _ _ (c .before .before .if3 .left), eq-eqb _ _ (c .before .if4 .taken)) (c .less .ensures), omega arith)
+returns-3 c = (simp (ne-eqb _ _ (c .before .before .before .if1 .left), ne-eqb _ _ (c .before .before .if2 .left), eq-eqb _ _ (c .before .if3 .taken)) (c .less .ensures), omega arith)
 
 less-requires-2 : tie.Need-less-requires-2
 less-requires-2 c κs = search needs
 
 returns-4 : tie.Need-returns-4
 unfolding depthAfter
-returns-4 c =
-    (simp (eq-eqb _ _ (c .before .before .before .before .before .if1 .taken), ne-eqb _ _ (c .before .before .before .before .if2 .left), ne-eqb _ _ (c .before .before .before .if3 .left), ne-eqb _ _ (c .before .before .if4 .left), eq-eqb _ _ (c .before .if5 .taken)) (c .less2 .ensures), omega arith)
+returns-4 c = (simp (ne-eqb _ _ (c .before .before .before .before .if1 .left), ne-eqb _ _ (c .before .before .before .if2 .left), ne-eqb _ _ (c .before .before .if3 .left), eq-eqb _ _ (c .before .if4 .taken)) (c .less2 .ensures), omega arith)
 
 returns-5 : tie.Need-returns-5
 unfolding depthAfter
-returns-5 c =
-    (simp (eq-eqb _ _ (c .before .before .before .before .if1 .taken), ne-eqb _ _ (c .before .before .before .if2 .left), ne-eqb _ _ (c .before .before .if3 .left), ne-eqb _ _ (c .before .if4 .left), ne-eqb _ _ (c .if5 .left)), omega arith)
-
-returns-6 : tie.Need-returns-6
-unfolding depthAfter
-returns-6 c = (simp (ne-eqb _ _ (c .if1 .left)), omega arith)
+returns-5 c = (simp (ne-eqb _ _ (c .before .before .before .if1 .left), ne-eqb _ _ (c .before .before .if2 .left), ne-eqb _ _ (c .before .if3 .left), ne-eqb _ _ (c .if4 .left)), omega arith)
 
 pub depth-after-spec : {M : Type 1} → statement M
 depth-after-spec =
@@ -59,5 +51,4 @@ depth-after-spec =
     returns-3
     less-requires-2
     returns-4
-    returns-5
-    returns-6)
+    returns-5)

@@ -1,37 +1,42 @@
 -- `view::strings::first_byte` meets its contract.
 -- Assumes nothing.
-use mathlib.Core.Path.{sym, ap, _∙_}
-use mathlib.Core.List.{List}
-use Prim.Native.Nat.{ℕ}
+use mathlib.Core.Path.{sym, _∙_}
+use native.Mathlib.Omega.{arith}
+use Rattle.view.proofs.Places.{in-text}
+use Rattle.view.proofs.Plain.{first-plain}
 use borrow.Author.Needs.{needs}
-use Rattle.ground.specs.Bytes.{byteAt}
-use Rattle.view.proofs.Undone.{read-end, read-byte}
 use Rattle.view.proofs.strings.first_byte.Statement.{statement}
 use Rattle.view.proofs.strings.first_byte.Tie as tie
 
-opening-requires : tie.Need-opening-requires
-opening-requires c κs = search needs
+byte-at-requires : tie.Need-byte-at-requires
+byte-at-requires c κs = search needs
 
-next-byte-requires : tie.Need-next-byte-requires
-next-byte-requires c κs = c .opening .ensures .1
+add-byte-at : tie.Need-add-byte-at
+add-byte-at c = let h = in-text _ _ _ _ (c .before .byte-at .ensures) (c .if1 .taken) (omega arith) in omega arith
 
-enum-told : tie.Need-enum-told
-enum-told c = search needs
+byte-at-requires-2 : tie.Need-byte-at-requires-2
+byte-at-requires-2 c κs = search needs
 
-enum-known-b : tie.Need-enum-known-b
-enum-known-b c = search needs
+is-plain-requires : tie.Need-is-plain-requires
+is-plain-requires c κs = search needs
 
 returns : tie.Need-returns
-unfolding byteAt
-returns c =
-    ap (λ (l : List ℕ). byteAt l 0) (sym (read-end (c .before .before .next-byte .ensures) (c .enum-told .given .1)) ∙ c .before .before .before .opening .ensures .0)
+returns c = first-plain _ _ _ _ (c .before .before .before .before .byte-at .ensures) (c .before .before .before .if1 .taken) (c .before .before .byte-at2 .ensures) (sym (c .before .is-plain .ensures) ∙ c .if2 .taken)
+
+spelled-first-requires : tie.Need-spelled-first-requires
+spelled-first-requires c κs = search needs
 
 returns-2 : tie.Need-returns-2
-unfolding byteAt
-returns-2 c =
-    ap (λ (l : List ℕ). byteAt l 0) (sym (read-byte (c .before .before .before .next-byte .ensures) (c .before .b .given .1)) ∙ c .before .before .before .before .opening .ensures .0)
+returns-2 c = search needs
 
 pub first-byte-spec : {M : Type 1} → statement M
 first-byte-spec =
     tie.close
-    (tie.spec opening-requires next-byte-requires enum-told enum-known-b returns returns-2)
+    (tie.spec
+    byte-at-requires
+    add-byte-at
+    byte-at-requires-2
+    is-plain-requires
+    returns
+    spelled-first-requires
+    returns-2)

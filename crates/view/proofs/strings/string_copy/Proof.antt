@@ -1,75 +1,74 @@
--- `view::strings::string_copy` meets its contract: what is left, stored, gives the whole store.
+-- `view::strings::string_copy` meets its contract.
 -- Assumes nothing.
-use mathlib.Core.Path.{_≡_, refl, ap, _∙_}
-use mathlib.Core.List.{List}
-use Prim.Native.Nat.{ℕ, _+_}
+use mathlib.Core.Path.{sym, _∙_}
 use native.Mathlib.Omega.{arith}
+use Rattle.view.proofs.Places.{in-text}
+use Rattle.view.proofs.Plain.{run-length, run-copy}
 use borrow.Author.Needs.{needs}
-use lib.ListN.{length, length-set}
-use Rattle.ground.specs.Bytes.{store}
-use Rattle.view.specs.Strings.{stringAt, leftOf, Within}
-use Rattle.view.proofs.Undone.{read-end, read-byte, read-within, copy-end, copy-turn, string-short}
 use Rattle.view.proofs.strings.string_copy.Statement.{statement}
 use Rattle.view.proofs.strings.string_copy.Tie as tie
 
-abbrev Inv-loop : tie.InvT-loop
-Inv-loop text at out₀ c₀ i₀ out c i = Within text c × (length out ≡ length out₀) × (i + length (leftOf text c) ≡ length (stringAt text at)) × (store out i (leftOf text c) ≡ store out₀ 0 (stringAt text at))
+byte-at-requires : tie.Need-byte-at-requires
+byte-at-requires c κs = search needs
 
-abbrev μ-loop : tie.MeasureT-loop
-μ-loop text at out₀ c₀ i₀ out c i = length (leftOf text c)
+add-start : tie.Need-add-start
+add-start c = let h = in-text _ _ _ _ (c .before .byte-at .ensures) (c .if1 .taken) (omega arith) in omega arith
 
-opening-requires : tie.Need-opening-requires Inv-loop μ-loop
-opening-requires c κs = search needs
+plain-end-requires : tie.Need-plain-end-requires
+plain-end-requires c κs = let h = in-text _ _ _ _ (c .before .byte-at .ensures) (c .if1 .taken) (omega arith) in omega arith
 
-loop-holds : tie.Need-loop-holds Inv-loop μ-loop
-loop-holds c =
-    (c .opening .ensures .1, refl, omega (arith, ap length (c .opening .ensures .0)), ap (λ (l : List ℕ). store (c .before .before .before .args .out .now) 0 l) (c .opening .ensures .0))
+byte-at-requires-2 : tie.Need-byte-at-requires-2
+byte-at-requires-2 c κs = search needs
 
-next-byte-requires : tie.Need-next-byte-requires Inv-loop μ-loop
-next-byte-requires c κs = c .loop .inv .0
+is-stop-requires : tie.Need-is-stop-requires
+is-stop-requires c κs = search needs
 
-enum-told : tie.Need-enum-told Inv-loop μ-loop
-enum-told c = search needs
+sub-copy : tie.Need-sub-copy
+sub-copy c = search needs
 
-same-length : tie.Need-same-length Inv-loop μ-loop
+part-copy-start : tie.Need-part-copy-start
+part-copy-start c = search needs
+
+part-copy-end : tie.Need-part-copy-end
+part-copy-end c = search needs
+
+copy-requires : tie.Need-copy-requires
+copy-requires c κs = search needs
+
+sub-result : tie.Need-sub-result
+sub-result c = search needs
+
+same-length : tie.Need-same-length
 same-length c = search needs
 
-returns : tie.Need-returns Inv-loop μ-loop
-returns c =
-    let e = read-end (c .before .before .next-byte .ensures) (c .enum-told .given .1) in let z = ap length e in (omega (arith, c .before .before .before .loop .inv .2), copy-end _ _ _ _ (c .before .before .before .loop .inv .3) e)
+returns : tie.Need-returns
+returns c = (run-length _ _ _ (c .before .before .before .before .before .before .before .before .before .before .byte-at .ensures) (c .before .before .before .before .before .before .before .before .before .if1 .taken) (c .before .before .before .before .before .before .before .before .plain-end .ensures .0) (c .before .before .before .before .before .before .before .byte-at2 .ensures) (sym (c .before .before .before .before .before .before .is-stop .ensures) ∙ c .before .before .before .before .before .if2 .taken) (c .before .before .before .before .before .before .before .before .plain-end .ensures .1) (c .before .before .before .before .before .before .before .before .plain-end .ensures .2), run-copy _ _ _ (c .before .before .before .before .before .before .before .before .before .before .byte-at .ensures) (c .before .before .before .before .before .before .before .before .before .if1 .taken) (c .before .before .before .before .before .before .before .before .plain-end .ensures .0) (c .before .before .before .before .before .before .before .byte-at2 .ensures) (sym (c .before .before .before .before .before .before .is-stop .ensures) ∙ c .before .before .before .before .before .if2 .taken) _ (c .before .before .copy .ensures))
 
-enum-known-b : tie.Need-enum-known-b Inv-loop μ-loop
-enum-known-b c = search needs
+spelled-copy-requires : tie.Need-spelled-copy-requires
+spelled-copy-requires c κs = search needs
 
-put-requires : tie.Need-put-requires Inv-loop μ-loop
-put-requires c κs = search needs
+same-length-2 : tie.Need-same-length-2
+same-length-2 c = search needs
 
-add-i : tie.Need-add-i Inv-loop μ-loop
-add-i c =
-    let z = ap length (read-byte (c .before .before .before .before .before .before .before .next-byte .ensures) (c .before .before .before .before .before .b .given .1)) in let s = string-short (c .before .before .before .before .before .before .before .before .before .before .before .before .args .text .now) (c .before .before .before .before .before .before .before .before .before .before .before .before .args .at) in omega (arith, c .before .before .before .before .before .before .before .before .loop .inv .2)
-
-loop-less : tie.Need-loop-less Inv-loop μ-loop
-loop-less c =
-    let z = ap length (read-byte (c .before .before .before .before .before .before .before .next-byte .ensures) (c .before .before .before .before .before .b .given .1)) in omega arith
-
-loop-again : tie.Need-loop-again Inv-loop μ-loop
-loop-again c =
-    let z = ap length (read-byte (c .before .before .before .before .before .before .before .next-byte .ensures) (c .before .before .before .before .before .b .given .1)) in ((read-within (c .before .before .before .before .before .before .before .next-byte .ensures) (c .before .before .before .before .before .b .given .1)), ap length (c .before .before .put .ensures) ∙ simp length-set (c .before .before .before .before .before .before .before .before .loop .inv .1), omega (arith, c .before .before .before .before .before .before .before .before .loop .inv .2), copy-turn _ _ _ _ _ _ (c .before .before .before .before .before .before .before .before .loop .inv .3) (read-byte (c .before .before .before .before .before .before .before .next-byte .ensures) (c .before .before .before .before .before .b .given .1)) (c .before .before .put .ensures))
+returns-2 : tie.Need-returns-2
+returns-2 c = c .before .before .spelled-copy .ensures
 
 pub string-copy-spec : {M : Type 1} → statement M
 string-copy-spec =
     tie.close
     (tie.spec
-    Inv-loop
-    μ-loop
-    opening-requires
-    loop-holds
-    next-byte-requires
-    enum-told
+    byte-at-requires
+    add-start
+    plain-end-requires
+    byte-at-requires-2
+    is-stop-requires
+    sub-copy
+    part-copy-start
+    part-copy-end
+    copy-requires
+    sub-result
     same-length
     returns
-    enum-known-b
-    put-requires
-    add-i
-    loop-less
-    loop-again)
+    spelled-copy-requires
+    same-length-2
+    returns-2)

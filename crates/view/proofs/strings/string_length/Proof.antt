@@ -1,64 +1,50 @@
--- `view::strings::string_length` meets its contract: as many bytes are read as are not left.
+-- `view::strings::string_length` meets its contract.
 -- Assumes nothing.
-use mathlib.Core.Path.{_≡_, ap}
-use Prim.Native.Nat.{_+_}
+use mathlib.Core.Path.{sym, _∙_}
 use native.Mathlib.Omega.{arith}
+use Rattle.view.proofs.Places.{in-text}
+use Rattle.view.proofs.Plain.{run-length}
 use borrow.Author.Needs.{needs}
-use lib.ListN.{length}
-use Rattle.view.specs.Strings.{stringAt, leftOf, Within}
-use Rattle.view.proofs.Undone.{read-end, read-byte, read-within, string-short}
 use Rattle.view.proofs.strings.string_length.Statement.{statement}
 use Rattle.view.proofs.strings.string_length.Tie as tie
 
-abbrev Inv-loop : tie.InvT-loop
-Inv-loop text at c₀ n₀ c n = Within text c × (n + length (leftOf text c) ≡ length (stringAt text at))
+byte-at-requires : tie.Need-byte-at-requires
+byte-at-requires c κs = search needs
 
-abbrev μ-loop : tie.MeasureT-loop
-μ-loop text at c₀ n₀ c n = length (leftOf text c)
+add-start : tie.Need-add-start
+add-start c = let h = in-text _ _ _ _ (c .before .byte-at .ensures) (c .if1 .taken) (omega arith) in omega arith
 
-opening-requires : tie.Need-opening-requires Inv-loop μ-loop
-opening-requires c κs = search needs
+plain-end-requires : tie.Need-plain-end-requires
+plain-end-requires c κs = let h = in-text _ _ _ _ (c .before .byte-at .ensures) (c .if1 .taken) (omega arith) in omega arith
 
-loop-holds : tie.Need-loop-holds Inv-loop μ-loop
-loop-holds c = (c .opening .ensures .1, omega (arith, ap length (c .opening .ensures .0)))
+byte-at-requires-2 : tie.Need-byte-at-requires-2
+byte-at-requires-2 c κs = search needs
 
-next-byte-requires : tie.Need-next-byte-requires Inv-loop μ-loop
-next-byte-requires c κs = c .loop .inv .0
+is-stop-requires : tie.Need-is-stop-requires
+is-stop-requires c κs = search needs
 
-enum-told : tie.Need-enum-told Inv-loop μ-loop
-enum-told c = search needs
+sub-result : tie.Need-sub-result
+sub-result c = c .before .before .before .plain-end .ensures .1
 
-returns : tie.Need-returns Inv-loop μ-loop
-returns c =
-    let z = ap length (read-end (c .before .before .next-byte .ensures) (c .enum-told .given .1)) in omega (arith, c .before .before .before .loop .inv .1)
+returns : tie.Need-returns
+returns c = run-length _ _ _ (c .before .before .before .before .before .byte-at .ensures) (c .before .before .before .before .if1 .taken) (c .before .before .before .plain-end .ensures .0) (c .before .before .byte-at2 .ensures) (sym (c .before .is-stop .ensures) ∙ c .if2 .taken) (c .before .before .before .plain-end .ensures .1) (c .before .before .before .plain-end .ensures .2)
 
-enum-known-next : tie.Need-enum-known-next Inv-loop μ-loop
-enum-known-next c = search needs
+spelled-length-requires : tie.Need-spelled-length-requires
+spelled-length-requires c κs = search needs
 
-add-n : tie.Need-add-n Inv-loop μ-loop
-add-n c =
-    let z = ap length (read-byte (c .before .before .before .next-byte .ensures) (c .before .next .given .1)) in let s = string-short (c .before .before .before .before .before .before .before .args .text .now) (c .before .before .before .before .before .before .before .args .at) in omega (arith, c .before .before .before .before .loop .inv .1)
-
-loop-less : tie.Need-loop-less Inv-loop μ-loop
-loop-less c =
-    let z = ap length (read-byte (c .before .before .before .next-byte .ensures) (c .before .next .given .1)) in omega arith
-
-loop-again : tie.Need-loop-again Inv-loop μ-loop
-loop-again c =
-    let z = ap length (read-byte (c .before .before .before .next-byte .ensures) (c .before .next .given .1)) in (read-within (c .before .before .before .next-byte .ensures) (c .before .next .given .1), omega (arith, c .before .before .before .before .loop .inv .1))
+returns-2 : tie.Need-returns-2
+returns-2 c = c .spelled-length .ensures
 
 pub string-length-spec : {M : Type 1} → statement M
 string-length-spec =
     tie.close
     (tie.spec
-    Inv-loop
-    μ-loop
-    opening-requires
-    loop-holds
-    next-byte-requires
-    enum-told
+    byte-at-requires
+    add-start
+    plain-end-requires
+    byte-at-requires-2
+    is-stop-requires
+    sub-result
     returns
-    enum-known-next
-    add-n
-    loop-less
-    loop-again)
+    spelled-length-requires
+    returns-2)

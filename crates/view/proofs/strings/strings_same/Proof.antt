@@ -1,103 +1,102 @@
--- `view::strings::strings_same` meets its contract: what is left of the one against what is left of the other.
+-- `view::strings::strings_same` meets its contract.
 -- Assumes nothing.
-use mathlib.Core.Path.{_≡_, ap, ap₂}
+use mathlib.Core.Path.{sym, _∙_}
 use native.Mathlib.Omega.{arith}
+use Rattle.view.proofs.Places.{in-text}
+use Rattle.view.proofs.Plain.{both-apart, one-stops, other-stops, alike-strings}
 use borrow.Author.Needs.{needs}
-use lib.ListN.{length}
-use Rattle.ground.specs.Bytes.{same}
-use Rattle.view.specs.Strings.{stringAt, leftOf, Within}
-use Rattle.view.proofs.Undone.{read-end, read-byte, read-within, both-end, one-ends, other-ends, bytes-differ, bytes-turn}
 use Rattle.view.proofs.strings.strings_same.Statement.{statement}
 use Rattle.view.proofs.strings.strings_same.Tie as tie
 
-abbrev Inv-loop : tie.InvT-loop
-Inv-loop text one other c₀ d₀ c d = Within text c × Within text d × (same (leftOf text c) (leftOf text d) ≡ same (stringAt text one) (stringAt text other))
+byte-at-requires : tie.Need-byte-at-requires
+byte-at-requires c κs = search needs
 
-abbrev μ-loop : tie.MeasureT-loop
-μ-loop text one other c₀ d₀ c d = length (leftOf text c)
+spelled-same-requires : tie.Need-spelled-same-requires
+spelled-same-requires c κs = search needs
 
-opening-requires : tie.Need-opening-requires Inv-loop μ-loop
-opening-requires c κs = search needs
+returns : tie.Need-returns
+returns c = c .spelled-same .ensures
 
-opening-requires-2 : tie.Need-opening-requires-2 Inv-loop μ-loop
-opening-requires-2 c κs = search needs
+byte-at-requires-2 : tie.Need-byte-at-requires-2
+byte-at-requires-2 c κs = search needs
 
-loop-holds : tie.Need-loop-holds Inv-loop μ-loop
-loop-holds c =
-    (c .before .opening .ensures .1, c .opening2 .ensures .1, ap₂ same (c .before .opening .ensures .0) (c .opening2 .ensures .0))
+spelled-same-requires-2 : tie.Need-spelled-same-requires-2
+spelled-same-requires-2 c κs = search needs
 
-next-byte-requires : tie.Need-next-byte-requires Inv-loop μ-loop
-next-byte-requires c κs = c .loop .inv .0
+returns-2 : tie.Need-returns-2
+returns-2 c = c .spelled-same2 .ensures
 
-enum-told : tie.Need-enum-told Inv-loop μ-loop
-enum-told c = search needs
+add-p : tie.Need-add-p
+add-p c = let h = in-text _ _ _ _ (c .before .before .before .byte-at .ensures) (c .before .before .if1 .left) (omega arith) in omega arith
 
-next-byte-requires-2 : tie.Need-next-byte-requires-2 Inv-loop μ-loop
-next-byte-requires-2 c κs = c .before .before .before .loop .inv .1
+add-q : tie.Need-add-q
+add-q c = let k = in-text _ _ _ _ (c .before .byte-at2 .ensures) (c .if2 .left) (omega arith) in omega arith
 
-enum-told-2 : tie.Need-enum-told-2 Inv-loop μ-loop
-enum-told-2 c = search needs
+alike-requires : tie.Need-alike-requires
+alike-requires c κs = let h = in-text _ _ _ _ (c .before .before .before .byte-at .ensures) (c .before .before .if1 .left) (omega arith) in let k = in-text _ _ _ _ (c .before .byte-at2 .ensures) (c .if2 .left) (omega arith) in (omega arith, omega arith)
 
-returns : tie.Need-returns Inv-loop μ-loop
-returns c =
-    both-end _ _ (c .before .before .before .before .before .before .loop .inv .2) (read-end (c .before .before .before .before .before .next-byte .ensures) (c .before .before .before .enum-told .given .1)) (read-end (c .before .before .next-byte2 .ensures) (c .enum-told2 .given .1))
+add-byte-at : tie.Need-add-byte-at
+add-byte-at c = search needs
 
-enum-told-3 : tie.Need-enum-told-3 Inv-loop μ-loop
-enum-told-3 c = search needs
+byte-at-requires-3 : tie.Need-byte-at-requires-3
+byte-at-requires-3 c κs = search needs
 
-returns-2 : tie.Need-returns-2 Inv-loop μ-loop
-returns-2 c =
-    one-ends _ _ (c .before .before .before .before .before .before .loop .inv .2) (read-end (c .before .before .before .before .before .next-byte .ensures) (c .before .before .before .enum-told .given .1)) (read-byte (c .before .before .next-byte2 .ensures) (c .enum-told3 .given .1))
+add-byte-at-2 : tie.Need-add-byte-at-2
+add-byte-at-2 c = search needs
 
-enum-known-a : tie.Need-enum-known-a Inv-loop μ-loop
-enum-known-a c = search needs
+byte-at-requires-4 : tie.Need-byte-at-requires-4
+byte-at-requires-4 c κs = search needs
 
-next-byte-requires-3 : tie.Need-next-byte-requires-3 Inv-loop μ-loop
-next-byte-requires-3 c κs = c .before .before .before .before .loop .inv .1
+differ-requires : tie.Need-differ-requires
+differ-requires c κs = search needs
 
-enum-told-4 : tie.Need-enum-told-4 Inv-loop μ-loop
-enum-told-4 c = search needs
+returns-3 : tie.Need-returns-3
+returns-3 c = both-apart _ _ _ (alike-strings _ _ _ (c .before .before .before .before .before .before .before .before .byte-at .ensures) (c .before .before .before .before .before .before .before .if1 .left) (c .before .before .before .before .before .before .byte-at2 .ensures) (c .before .before .before .before .before .if2 .left) (c .before .before .before .before .alike .ensures .0)) (c .before .before .before .byte-at3 .ensures) (c .before .before .byte-at4 .ensures) (sym (c .before .differ .ensures) ∙ c .if3 .taken)
 
-returns-3 : tie.Need-returns-3 Inv-loop μ-loop
-returns-3 c =
-    other-ends _ _ (c .before .before .before .before .before .before .before .loop .inv .2) (read-byte (c .before .before .before .before .before .before .next-byte .ensures) (c .before .before .before .before .a .given .1)) (read-end (c .before .before .next-byte3 .ensures) (c .enum-told4 .given .1))
+is-stop-requires : tie.Need-is-stop-requires
+is-stop-requires c κs = search needs
 
-enum-known-b : tie.Need-enum-known-b Inv-loop μ-loop
-enum-known-b c = search needs
+is-stop-requires-2 : tie.Need-is-stop-requires-2
+is-stop-requires-2 c κs = search needs
 
-returns-4 : tie.Need-returns-4 Inv-loop μ-loop
-returns-4 c =
-    bytes-differ _ _ (c .before .before .before .before .before .before .before .before .before .loop .inv .2) (read-byte (c .before .before .before .before .before .before .before .before .next-byte .ensures) (c .before .before .before .before .before .before .a .given .1)) (read-byte (c .before .before .before .before .next-byte3 .ensures) (c .before .before .b .given .1)) (c .if1 .taken)
+returns-4 : tie.Need-returns-4
+returns-4 c = c .is-stop2 .ensures ∙ one-stops _ _ _ (alike-strings _ _ _ (c .before .before .before .before .before .before .before .before .before .before .before .byte-at .ensures) (c .before .before .before .before .before .before .before .before .before .before .if1 .left) (c .before .before .before .before .before .before .before .before .before .byte-at2 .ensures) (c .before .before .before .before .before .before .before .before .if2 .left) (c .before .before .before .before .before .before .before .alike .ensures .0)) (c .before .before .before .before .before .before .byte-at3 .ensures) (c .before .before .before .before .before .byte-at4 .ensures) (sym (c .before .before .is-stop .ensures) ∙ c .before .if4 .taken)
 
-loop-less : tie.Need-loop-less Inv-loop μ-loop
-loop-less c =
-    let z = ap length (read-byte (c .before .before .before .before .before .before .before .before .next-byte .ensures) (c .before .before .before .before .before .before .a .given .1)) in omega arith
+is-stop-requires-3 : tie.Need-is-stop-requires-3
+is-stop-requires-3 c κs = search needs
 
-loop-again : tie.Need-loop-again Inv-loop μ-loop
-loop-again c =
-    (read-within (c .before .before .before .before .before .before .before .before .next-byte .ensures) (c .before .before .before .before .before .before .a .given .1), read-within (c .before .before .before .before .next-byte3 .ensures) (c .before .before .b .given .1), bytes-turn _ _ (c .before .before .before .before .before .before .before .before .before .loop .inv .2) (read-byte (c .before .before .before .before .before .before .before .before .next-byte .ensures) (c .before .before .before .before .before .before .a .given .1)) (read-byte (c .before .before .before .before .next-byte3 .ensures) (c .before .before .b .given .1)) (c .if1 .left))
+returns-5 : tie.Need-returns-5
+returns-5 c = other-stops _ _ _ (alike-strings _ _ _ (c .before .before .before .before .before .before .before .before .before .before .before .before .byte-at .ensures) (c .before .before .before .before .before .before .before .before .before .before .before .if1 .left) (c .before .before .before .before .before .before .before .before .before .before .byte-at2 .ensures) (c .before .before .before .before .before .before .before .before .before .if2 .left) (c .before .before .before .before .before .before .before .before .alike .ensures .0)) (c .before .before .before .before .before .before .before .byte-at3 .ensures) (c .before .before .before .before .before .before .byte-at4 .ensures) (sym (c .before .before .before .is-stop .ensures) ∙ c .before .before .if4 .left) (sym (c .before .is-stop3 .ensures) ∙ c .if5 .taken)
+
+spelled-same-requires-3 : tie.Need-spelled-same-requires-3
+spelled-same-requires-3 c κs = search needs
+
+returns-6 : tie.Need-returns-6
+returns-6 c = c .spelled-same3 .ensures
 
 pub strings-same-spec : {M : Type 1} → statement M
 strings-same-spec =
     tie.close
     (tie.spec
-    Inv-loop
-    μ-loop
-    opening-requires
-    opening-requires-2
-    loop-holds
-    next-byte-requires
-    enum-told
-    next-byte-requires-2
-    enum-told-2
+    byte-at-requires
+    spelled-same-requires
     returns
-    enum-told-3
+    byte-at-requires-2
+    spelled-same-requires-2
     returns-2
-    enum-known-a
-    next-byte-requires-3
-    enum-told-4
+    add-p
+    add-q
+    alike-requires
+    add-byte-at
+    byte-at-requires-3
+    add-byte-at-2
+    byte-at-requires-4
+    differ-requires
     returns-3
-    enum-known-b
+    is-stop-requires
+    is-stop-requires-2
     returns-4
-    loop-less
-    loop-again)
+    is-stop-requires-3
+    returns-5
+    spelled-same-requires-3
+    returns-6)
