@@ -1,0 +1,53 @@
+-- `declare::input::read_all` stays within the buffer, and ends: each turn reads at least one byte.
+-- Assumes nothing.
+use mathlib.Core.Path.{_≡_, refl}
+use Prim.Native.Nat.{_-_, _≤_}
+use lib.ListN.{length}
+use borrow.Author.Needs.{needs}
+use Rattle.declare.proofs.input.read_all.Statement.{statement}
+use Rattle.declare.proofs.input.read_all.Tie as tie
+
+abbrev Inv-loop : tie.InvT-loop
+Inv-loop fd buf₀ to₀ buf to = (length buf ≡ length buf₀) × (to ≤ length buf)
+
+abbrev μ-loop : tie.MeasureT-loop
+μ-loop fd buf₀ to₀ buf to = length buf - to
+
+loop-holds : tie.Need-loop-holds Inv-loop μ-loop
+loop-holds c = (refl, search needs)
+
+read-more-requires : tie.Need-read-more-requires Inv-loop μ-loop
+read-more-requires c κs = search needs
+
+same-length : tie.Need-same-length Inv-loop μ-loop
+same-length c = search needs
+
+returns : tie.Need-returns Inv-loop μ-loop
+returns c = search needs
+
+loop-less : tie.Need-loop-less Inv-loop μ-loop
+loop-less c = search needs
+
+loop-again : tie.Need-loop-again Inv-loop μ-loop
+loop-again c = (search needs, search needs)
+
+same-length-2 : tie.Need-same-length-2 Inv-loop μ-loop
+same-length-2 c = search needs
+
+returns-2 : tie.Need-returns-2 Inv-loop μ-loop
+returns-2 c = search needs
+
+pub read-all-spec : {M : Type 1} → statement M
+read-all-spec =
+    tie.close
+    (tie.spec
+    Inv-loop
+    μ-loop
+    loop-holds
+    read-more-requires
+    same-length
+    returns
+    loop-less
+    loop-again
+    same-length-2
+    returns-2)

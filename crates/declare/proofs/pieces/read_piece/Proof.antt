@@ -1,0 +1,77 @@
+-- `declare::pieces::read_piece` stays within the buffer, and ends: each turn reads at least one byte.
+-- Assumes nothing.
+use mathlib.Core.Path.{_≡_, refl}
+use Prim.Native.Nat.{_-_, _≤_}
+use lib.ListN.{length}
+use borrow.Author.Needs.{needs}
+use Rattle.declare.proofs.pieces.read_piece.Statement.{statement}
+use Rattle.declare.proofs.pieces.read_piece.Tie as tie
+
+abbrev Inv-loop : tie.InvT-loop
+Inv-loop buf₀ n to₀ buf to = (length buf ≡ length buf₀) × (to ≤ length buf)
+
+abbrev μ-loop : tie.MeasureT-loop
+μ-loop buf₀ n to₀ buf to = length buf - to
+
+loop-holds : tie.Need-loop-holds Inv-loop μ-loop
+loop-holds c = (refl, search needs)
+
+read-more-requires : tie.Need-read-more-requires Inv-loop μ-loop
+read-more-requires c κs = search needs
+
+last-piece-requires : tie.Need-last-piece-requires Inv-loop μ-loop
+last-piece-requires c κs = search needs
+
+same-length : tie.Need-same-length Inv-loop μ-loop
+same-length c = search needs
+
+returns : tie.Need-returns Inv-loop μ-loop
+returns c = search needs
+
+mark-at-requires : tie.Need-mark-at-requires Inv-loop μ-loop
+mark-at-requires c κs = search needs
+
+whole-piece-requires : tie.Need-whole-piece-requires Inv-loop μ-loop
+whole-piece-requires c κs = search needs
+
+same-length-2 : tie.Need-same-length-2 Inv-loop μ-loop
+same-length-2 c = search needs
+
+returns-2 : tie.Need-returns-2 Inv-loop μ-loop
+returns-2 c = search needs
+
+loop-less : tie.Need-loop-less Inv-loop μ-loop
+loop-less c = search needs
+
+loop-again : tie.Need-loop-again Inv-loop μ-loop
+loop-again c = (search needs, search needs)
+
+cut-piece-requires : tie.Need-cut-piece-requires Inv-loop μ-loop
+cut-piece-requires c κs = search needs
+
+same-length-3 : tie.Need-same-length-3 Inv-loop μ-loop
+same-length-3 c = search needs
+
+returns-3 : tie.Need-returns-3 Inv-loop μ-loop
+returns-3 c = search needs
+
+pub read-piece-spec : {M : Type 1} → statement M
+read-piece-spec =
+    tie.close
+    (tie.spec
+    Inv-loop
+    μ-loop
+    loop-holds
+    read-more-requires
+    last-piece-requires
+    same-length
+    returns
+    mark-at-requires
+    whole-piece-requires
+    same-length-2
+    returns-2
+    loop-less
+    loop-again
+    cut-piece-requires
+    same-length-3
+    returns-3)
