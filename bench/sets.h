@@ -2,6 +2,7 @@
 #ifndef SETS_H
 #define SETS_H
 #include <stdint.h>
+#include <stdio.h>
 #include <string.h>
 
 enum { LENGTH = 51266, ROWS = 66, ROW = 34, STRINGS = 34882 };
