@@ -89,6 +89,17 @@ pub extern "C" fn dhokyurai_replace(
     n.number
 }
 
+// The full name's length; where there is no name, why. So memory is checked once for a name that is there.
+fn named(memory: &[u8], place: usize, row: usize, name: &[u8]) -> Numbers
+    requires { ⌜ now name ≡ fullNameIn (now memory) place row ⌝ }
+    ensures { λ r. ⌜ r ≡ ofNaming (namingOf (now (memory .entry)) place row) ⌝ }
+{
+    if name.len() == 0 {
+        return numbers::of_naming(set::naming_of(memory, place, row));
+    }
+    numbers::accepted(name.len())
+}
+
 // The full name of a row into a buffer, as far as there is room; 255 bytes hold any.
 #[no_mangle]
 pub extern "C" fn dhokyurai_full_name(
@@ -104,8 +115,9 @@ pub extern "C" fn dhokyurai_full_name(
         × (now (a .exit) ≡ ofNaming (namingOf (now (memory .entry)) place row) .first)
         × (now (b .exit) ≡ ofNaming (namingOf (now (memory .entry)) place row) .second) ⌝ }
 {
-    let n = numbers::of_naming(set::naming_of(memory, place, row));
-    copy(buffer, 0, set::full_name(memory, place, row));
+    let name = set::full_name(memory, place, row);
+    copy(buffer, 0, name);
+    let n = named(memory, place, row, name);
     *a = n.first;
     *b = n.second;
     n.number

@@ -41,7 +41,8 @@ pub(crate) fn of_answer(a: Answer) -> Numbers
     }
 }
 
-fn accepted(length: usize) -> Numbers
+// Accepted, and one length.
+pub(crate) fn accepted(length: usize) -> Numbers
     ensures { λ n. ⌜ n ≡ record { number = 0; first = length; second = 0; third = 0 } ⌝ }
 {
     Numbers {
