@@ -4,12 +4,13 @@ use mathlib.Core.Bool.{Bool, true, false, cond}
 use mathlib.Core.List.{List}
 use Prim.Native.Nat.{ℕ, _+_, _≤_, _<_, max}
 use native.Mathlib.Omega.{arith}
-use borrow.Author.Tests.{ne-eqb, lt-ltb, le-ltb}
+use borrow.Author.Tests.{leb-true, ne-eqb, lt-ltb, le-ltb}
 use lib.ListN.{length, getD}
-use lib.Dec.{eqb}
+use lib.Dec.{eqb, leb}
+use Rattle.ground.proofs.Laws.{never, and-true}
 use Rattle.answer.specs.declared.refusal.Why.the-variants.{NotJson}
-use Rattle.json.specs.Json.{Mode, Stack, go, die, step, one, inside, isHex, isD, isHigh, isLow, isShort, isByte, Place, as-key, closed, str, text, wide, plain, esc, h1, h2, h2d, h3, h4, g3, g4, g5, g6, g7, g8, tail}
-use Rattle.json.specs.Meets.{runAt, onStep, Forth, Reads, Takes, oneOf, thenOne, Wide}
+use Rattle.json.specs.Json.{Mode, Stack, go, die, step, one, inside, isUnescaped, isHex, isD, isHigh, isLow, isShort, isByte, Place, as-key, closed, str, text, wide, plain, esc, h1, h2, h2d, h3, h4, g3, g4, g5, g6, g7, g8, tail}
+use Rattle.json.specs.Meets.{runAt, onStep, Forth, Reads, Takes, oneOf, thenOne, Stays, Passes, Wide}
 use Rattle.json.specs.declared.step.Step.{Step}
 use Rattle.json.specs.declared.step.Step.the-variants.{Next, Fails}
 use Rattle.answer.specs.declared.refusal.Fault.{Fault}
@@ -149,7 +150,28 @@ pub record Inner (t : List ℕ) (p q : ℕ) : Type 0 where
   pub high : q ≤ max p (length t)
   pub same : (w : Place) (k : Stack) → runAt t (str w plain) k p ≡ runAt t (str w plain) k q
 
+-- bytes that stand for themselves leave the automaton in the string
+plain-stays : (w : Place) → Stays isUnescaped (str w plain)
+unfolding text
+plain-stays w b k h =
+    let s = and-true (inside 32 127 b) _ h in
+    let i = and-true (leb 32 b) (leb b 127) (s .0) in
+    let low : 32 ≤ b = leb-true 32 b (i .0) in
+    let high : b ≤ 127 = leb-true b 127 (i .1) in
+    simp (ne-eqb b 34 (other 34 refl), le-ltb b 32 low, ne-eqb b 92 (other 92 refl), lt-ltb b 128 (omega arith))
+  where
+    other : (x : ℕ) → isUnescaped x ≡ false → b ≡ x → ⊥
+    other x n e = never (sym n ∙ sym (ap isUnescaped e) ∙ h)
+
 module _ (t : List ℕ) (p q : ℕ) (I : Inner t p q) where
+  pub inner-past : (r : ℕ) → Passes isUnescaped t q r → Inner t p r
+  inner-past r P =
+      let low = I .low in
+      let high = I .high in
+      let far = P .low in
+      let end = P .high in
+      record { low = omega arith; high = omega arith; same = λ w k. I .same w k ∙ P .same (str w plain) (plain-stays w) k }
+
   pub inner-on : (r : Step) → ((w : Place) → Reads t q (str w plain) (str w plain) r) → (e : ℕ) → r ≡ Next e → Inner t p e × (q < e) × (e ≤ length t)
   inner-on r R e n =
       let f : (q < e) × (e ≤ length t) = subst (Forth t q) n (R as-key .forth) in

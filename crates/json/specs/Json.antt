@@ -1,7 +1,7 @@
 -- JSON texts (RFC 8259) as a pushdown automaton on bytes: a mode, and a stack of the brackets that are open.
 -- Assumes nothing: these are definitions.
 use Prim.Native.Nat.{ℕ, zero, suc}
-use mathlib.Core.Bool.{Bool, true, false, cond, _&&_, _||_}
+use mathlib.Core.Bool.{Bool, true, false, cond, not, _&&_, _||_}
 use mathlib.Core.List.{List, [], _∷_}
 use lib.ListN.{length}
 use lib.Dec.{ltb, leb, eqb}
@@ -56,6 +56,10 @@ inside lo hi b = leb lo b && leb b hi
 
 abbrev pub isSpace : ℕ → Bool
 isSpace b = eqb b 32 || eqb b 9 || eqb b 10 || eqb b 13
+
+-- RFC 8259's "unescaped", of one byte: no control character, no quote, no \
+abbrev pub isUnescaped : ℕ → Bool
+isUnescaped b = inside 32 127 b && not (eqb b 34 || eqb b 92)
 
 abbrev pub isDigit : ℕ → Bool
 isDigit b = inside 48 57 b

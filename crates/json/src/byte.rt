@@ -1,7 +1,7 @@
 // Classes of bytes.
 
 ghost use mathlib.Core.Path.{_≡_};
-ghost use Rattle.json.specs.Json.{isSpace, isDigit, isHex, isD, isE, isSign, isHigh, isLow, isShort, inside};
+ghost use Rattle.json.specs.Json.{isSpace, isUnescaped, isDigit, isHex, isD, isE, isSign, isHigh, isLow, isShort, inside};
 
 pub(crate) fn is_space(b: u8) -> bool
     ensures { λ r. ⌜ r ≡ isSpace b ⌝ }
@@ -14,6 +14,21 @@ pub(crate) fn is_space(b: u8) -> bool
         true
     } else {
         b == 13
+    }
+}
+
+// The small letters are told first.
+pub(crate) fn is_unescaped(b: u8) -> bool
+    ensures { λ r. ⌜ r ≡ isUnescaped b ⌝ }
+{
+    if b > b'\\' {
+        b <= 127
+    } else if b > b'"' {
+        b != b'\\'
+    } else if b == b'"' {
+        false
+    } else {
+        b >= 32
     }
 }
 

@@ -1,4 +1,5 @@
 // Strings.
+use crate::byte::is_unescaped;
 use crate::escape::escape;
 use crate::step::Step;
 use crate::step::bad;
@@ -6,8 +7,22 @@ use crate::utf8::wide_char;
 ghost use mathlib.Core.Path.{_≡_};
 ghost use Prim.Native.Nat.{_<_};
 ghost use lib.ListN.{getD, length};
-ghost use Rattle.json.specs.Json.{str, plain, Place, closed};
-ghost use Rattle.json.specs.Meets.{Reads};
+ghost use Rattle.json.specs.Json.{str, plain, Place, closed, isUnescaped};
+ghost use Rattle.json.specs.Meets.{Passes, Reads};
+
+// Past the bytes that stand for themselves.
+pub(crate) fn unescaped(text: &[u8], from: usize) -> usize
+    ensures { λ r. ⌜ Passes isUnescaped (now (text .entry)) from r ⌝ }
+{
+    let mut at = from;
+    while at < text.len() {
+        if !is_unescaped(text[at]) {
+            return at;
+        }
+        at += 1;
+    }
+    at
+}
 
 // One character or escape of a string, whose first byte is b, and no quote.
 pub(crate) fn piece(text: &[u8], at: usize, b: u8) -> Step
@@ -31,6 +46,10 @@ pub(crate) fn string(text: &[u8], from: usize) -> Step
 {
     let mut at = from;
     while at < text.len() {
+        at = unescaped(text, at);
+        if at >= text.len() {
+            return bad(at);
+        }
         let b = text[at];
         if b == b'"' {
             return Step::Next(at + 1);
