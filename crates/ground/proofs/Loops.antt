@@ -3,7 +3,7 @@
 use mathlib.Core.Path.{_≡_, sym, ap, _∙_}
 use mathlib.Core.Bool.{Bool, true, false, _&&_, and-true, and-assoc}
 use mathlib.Core.List.{List}
-use Prim.Native.Nat.{ℕ, suc, _+_, _<_, _≤_, max}
+use Prim.Native.Nat.{ℕ, suc, _+_, _-_, _<_, _≤_, max, min}
 use native.Mathlib.Numerals.{add-one}
 use native.Mathlib.Decide.{decLe}
 use native.Mathlib.Omega.{arith}
@@ -45,12 +45,16 @@ module _ (s : List ℕ) (i most : ℕ) (t : Bool) (inv : t ≡ (eqb most 0 && al
   unfolding allZero
   zero-end l = sym (inv ∙ rw (drop-of-length-le s l) (and-true (eqb most 0)))
 
-module _ (to x bs : List ℕ) (i j : ℕ) (inv : store to j (drop i bs) ≡ x) where
-  pub copy-turn : i < length bs → store (set to j (getD bs i 0)) (j + 1) (drop (i + 1) bs) ≡ x
-  copy-turn l = sym (store-cons to j (getD bs i 0) (drop (i + 1) bs)) ∙ ap (store to j) (sym (rw add-one (drop-cons bs i 0 l))) ∙ inv
+module _ (to x bs : List ℕ) (at i : ℕ) (inv : store to (at + i) (drop i bs) ≡ x) where
+  pub copy-turn : i < length bs → store (set to (at + i) (getD bs i 0)) (at + (i + 1)) (drop (i + 1) bs) ≡ x
+  copy-turn l =
+      let e : at + (i + 1) ≡ at + i + 1 = omega arith in
+      rw e (sym (store-cons to (at + i) (getD bs i 0) (drop (i + 1) bs)) ∙ ap (store to (at + i)) (sym (rw add-one (drop-cons bs i 0 l))) ∙ inv)
 
-  pub copy-full : length to ≤ j → to ≡ x
-  copy-full l = sym (store-past to j (drop i bs) l) ∙ inv
-
-  pub copy-end : length bs ≤ i → to ≡ x
-  copy-end l = sym (ap (store to j) (drop-of-length-le bs l) ∙ store-none to j) ∙ inv
+  -- either all is stored, or there is no room for more
+  pub copy-end : min (length bs) (length to - at) ≤ i → to ≡ x
+  copy-end l = go (decLe (length bs) i)
+    where
+      go : Dec (length bs ≤ i) → to ≡ x
+      go (yes p) = sym (ap (store to (at + i)) (drop-of-length-le bs p) ∙ store-none to (at + i)) ∙ inv
+      go (no p) = sym (store-past to (at + i) (drop i bs) (omega arith)) ∙ inv

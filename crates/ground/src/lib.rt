@@ -1,6 +1,6 @@
 // Strings of bytes, as every other crate reads, compares and copies them; and the size of a signed number.
 ghost use mathlib.Core.Path.{_≡_};
-ghost use Prim.Native.Nat.{max};
+ghost use Prim.Native.Nat.{_-_, max, min};
 ghost use lib.IntN.{natAbs};
 ghost use Rattle.ground.specs.Bytes.{byteAt, same, allZero, store};
 
@@ -47,19 +47,26 @@ fn larger(a: u8, b: u8) -> u8
     if a < b { b } else { a }
 }
 
-// Stores the bytes of `from` in `to`, from `at` on, as far as there is room.
+// How many of n bytes have room from `at` on.
+fn fitting(room: usize, at: usize, n: usize) -> usize
+    ensures { λ r. ⌜ r ≡ min n (room - at) ⌝ }
+{
+    if room <= at {
+        return 0;
+    }
+    if n <= room - at { n } else { room - at }
+}
+
+// Stores the bytes of `from` in `to`, from `at` on, as far as there is room. No way out of the loop before its end, so that it goes
+// by many bytes at a turn.
 pub fn copy(to: &mut [u8], at: usize, from: &[u8])
     ensures { λ _. ⌜ now (to .exit) ≡ store (now (to .entry)) at (now («from» .entry)) ⌝ }
 {
+    let n = fitting(to.len(), at, from.len());
     let mut i = 0;
-    let mut j = at;
-    while i < from.len() {
-        if to.len() <= j {
-            return;
-        }
-        to[j] = from[i];
+    while i < n {
+        to[at + i] = from[i];
         i += 1;
-        j += 1;
     }
 }
 

@@ -108,10 +108,6 @@ fits-true r e =
       scale = ltb-true _ _ (a .1);
     }
 
-pub length-front : (o : ℕ) (r : Row) → length (encodeFront o r) ≡ 10
-unfolding encodeFront lowFirst
-length-front o r = refl
-
 pub length-row : (o : ℕ) (r : Row) → length (encodeRow o r) ≡ rowSize
 unfolding encodeRow encodeFront lowFirst
 length-row o r = refl

@@ -3,27 +3,25 @@
 use mathlib.Core.Path.{_≡_, sym, ap, ap₂, _∙_}
 use mathlib.Core.Bool.{true, false}
 use mathlib.Core.List.{List, [], _∷_, _++_}
-use Prim.Native.Nat.{ℕ, suc, _+_, _-_, _*_, _<_, _≤_, min}
+use Prim.Native.Nat.{ℕ, zero, suc, _+_, _-_, _*_, _<_, _≤_, min}
 use native.Mathlib.Decide.{decLe}
 use native.Mathlib.Nat.{add-zero, sub-zero}
 use native.Mathlib.Numerals.{add-one}
 use native.Mathlib.Omega.{arith}
 use lib.Dec.{leb, ltb}
-use lib.ListN.{length, take, drop, set, replicate-append-replicate}
-use lib.Seq.{take-suc-set, take-all, drop-drop}
+use lib.ListN.{length, take, drop, getD, set, drop-of-length-le, replicate-append-replicate}
+use lib.Seq.{take-suc-set, take-all, drop-drop, drop-cons}
 use borrow.Author.Tests.{lt-ltb, le-ltb, le-leb, lt-leb, ltb-true, leb-true}
 use Rattle.answer.specs.declared.counts.Counts.{Counts}
 use Rattle.answer.specs.Limits.{countsOf}
 use Rattle.ground.specs.Bytes.{store}
-use Rattle.ground.proofs.Laws.{and-true, store-then}
+use Rattle.ground.proofs.Laws.{and-true}
 use Rattle.ground.specs.Numbers.{lowFirst}
 use Rattle.row.specs.Layout.{rowLimit, stringLimit, rowSize, rowsStart, stringsStart}
 use Rattle.row.specs.Rows.{Row, rowOf, encodeFront, encodeRow, rowsOf}
 use Rattle.row.specs.Sets.{zeros, rowsFrom}
 use Rattle.row.specs.Memory.{entryAt, textAt, rowAt, most, counted, hasRoom, written, pushed, countedAll, pushedAll, declared}
 use Rattle.row.specs.declared.Entry.{Entry}
-use Rattle.row.proofs.NumberLaws.{length-bytes}
-use Rattle.row.proofs.RowLaws.{length-front}
 
 -- ---- clearing: the bytes passed are zero
 
@@ -65,17 +63,22 @@ module _ (c : Counts) (n : ℕ) where
 
 -- ---- one row
 
-pub row-parts : (m m₁ m₂ m₃ m₄ : List ℕ) (at o : ℕ) (r : Row) (f s q z : List ℕ) → f ≡ encodeFront o r → s ≡ lowFirst 8 (r .size) → q ≡ lowFirst 8 (r .precision) → z ≡ lowFirst 8 (r .scale)
-    → m₁ ≡ store m at f → m₂ ≡ store m₁ (at + 10) s → m₃ ≡ store m₂ (at + 18) q → m₄ ≡ store m₃ (at + 26) z → m₄ ≡ store m at (encodeRow o r)
+-- the n bytes of s from a place on, one by one
+unfoldable pub listed : List ℕ → ℕ → ℕ → List ℕ
+listed s i zero = []
+listed s i (suc n) = getD s i 0 ∷ listed s (suc i) n
+
+listed-rest : (s : List ℕ) (i n : ℕ) → length s ≡ i + n → listed s i n ≡ drop i s
+unfolding listed
+listed-rest s i zero e = let l : length s ≤ i = omega arith in sym (drop-of-length-le s l)
+listed-rest s i (suc n) e = rw (drop-cons s i 0 (omega arith)) (ap (λ (x : List ℕ). getD s i 0 ∷ x) (listed-rest s (suc i) n (omega arith)))
+
+pub four-parts : (f s q z : List ℕ) → length f ≡ 10 → length s ≡ 8 → length q ≡ 8 → length z ≡ 8 → listed f 0 10 ++ (listed s 0 8 ++ (listed q 0 8 ++ listed z 0 8)) ≡ f ++ (s ++ (q ++ z))
+four-parts f s q z h i j k = rw (listed-rest f 0 10 h, listed-rest s 0 8 i, listed-rest q 0 8 j, listed-rest z 0 8 k)
+
+pub row-joined : (o : ℕ) (r : Row) (f s q z b : List ℕ) → f ≡ encodeFront o r → s ≡ lowFirst 8 (r .size) → q ≡ lowFirst 8 (r .precision) → z ≡ lowFirst 8 (r .scale) → b ≡ f ++ (s ++ (q ++ z)) → b ≡ encodeRow o r
 unfolding encodeRow
-row-parts m m₁ m₂ m₃ m₄ at o r f s q z ef es eq ez h₁ h₂ h₃ h₄ =
-    let lf : length f ≡ 10 = ap length ef ∙ length-front o r in
-    let ls : length s ≡ 8 = ap length es ∙ length-bytes 8 (r .size) in
-    let lq : length q ≡ 8 = ap length eq ∙ length-bytes 8 (r .precision) in
-    store-then m m₁ m₄ at (at + 10) f (s ++ (q ++ z)) h₁
-    (store-then m₁ m₂ m₄ (at + 10) (at + 18) s (q ++ z) h₂ (store-then m₂ m₃ m₄ (at + 18) (at + 26) q z h₃ h₄ (omega arith)) (omega arith))
-    (omega arith)
-    ∙ rw (ef, es, eq, ez)
+row-joined o r f s q z b ef es eq ez e = e ∙ rw (ef, es, eq, ez)
 
 pub both-written : (m m₁ m₂ : List ℕ) (c : Counts) (r : Row) → m₁ ≡ store m (rowsStart + rowSize * c .rows) (encodeRow (c .«string_bytes») r) → m₂ ≡ store m₁ (stringsStart + c .«string_bytes») (r .text) → m₂ ≡ written m c r
 unfolding written

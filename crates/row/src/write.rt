@@ -8,6 +8,7 @@ use crate::read::string_of;
 use answer::Counts;
 use ground::copy;
 ghost use mathlib.Core.Path.{_≡_};
+ghost use mathlib.Core.List.{_++_};
 ghost use Prim.Native.Nat.{_+_, _≤_, _<_, min};
 ghost use lib.ListN.{length};
 ghost use Rattle.ground.specs.Bytes.{store};
@@ -49,19 +50,67 @@ fn front(row: Entry, start: u16, text: &[u8]) -> [u8; 10]
     ]
 }
 
-// A row at its place in memory, and its string, which lies from `start` on, apart.
-fn write_row(mem: &mut [u8], at: usize, row: Entry, start: u16, text: &[u8])
-    requires { ⌜ (at < 65536) × (length (now text) < 65536) ⌝ }
-    ensures { λ _. ⌜ now (mem .exit) ≡ store (now (mem .entry)) at (encodeRow start (rowOf row (now (text .entry)))) ⌝ }
+// A row's four parts in one array, so that one copy stores them.
+fn joined(front: [u8; 10], size: [u8; 8], precision: [u8; 8], scale: [u8; 8]) -> [u8; 34]
+    ensures { λ r. ⌜ r ≡ front ++ (size ++ (precision ++ scale)) ⌝ }
+{
+    [
+        front[0],
+        front[1],
+        front[2],
+        front[3],
+        front[4],
+        front[5],
+        front[6],
+        front[7],
+        front[8],
+        front[9],
+        size[0],
+        size[1],
+        size[2],
+        size[3],
+        size[4],
+        size[5],
+        size[6],
+        size[7],
+        precision[0],
+        precision[1],
+        precision[2],
+        precision[3],
+        precision[4],
+        precision[5],
+        precision[6],
+        precision[7],
+        scale[0],
+        scale[1],
+        scale[2],
+        scale[3],
+        scale[4],
+        scale[5],
+        scale[6],
+        scale[7],
+    ]
+}
+
+// The bytes of a row whose string lies from `start` on in the string area.
+fn bytes_of(row: Entry, start: u16, text: &[u8]) -> [u8; 34]
+    requires { ⌜ length (now text) < 65536 ⌝ }
+    ensures { λ r. ⌜ r ≡ encodeRow start (rowOf row (now (text .entry))) ⌝ }
 {
     let first = front(row, start, text);
     let size = eight(row.size);
     let precision = eight(row.precision);
     let scale = eight(row.scale);
-    copy(mem, at, &first);
-    copy(mem, at + 10, &size);
-    copy(mem, at + 18, &precision);
-    copy(mem, at + 26, &scale);
+    joined(first, size, precision, scale)
+}
+
+// A row at its place in memory, and its string, which lies from `start` on, apart.
+fn write_row(mem: &mut [u8], at: usize, row: Entry, start: u16, text: &[u8])
+    requires { ⌜ (at < 65536) × (length (now text) < 65536) ⌝ }
+    ensures { λ _. ⌜ now (mem .exit) ≡ store (now (mem .entry)) at (encodeRow start (rowOf row (now (text .entry)))) ⌝ }
+{
+    let bytes = bytes_of(row, start, text);
+    copy(mem, at, &bytes);
 }
 
 // n and by together, at most the largest number.
