@@ -8,10 +8,15 @@
 #endif
 
 /* How many rows, 0 where the text is refused. */
-extern uint64_t bench_declare(const uint8_t *text, size_t length);
+extern uint64_t bench_declare(const uint8_t *text, size_t length, uint8_t *draft, size_t room);
+
+static uint64_t declare(const uint8_t *text, size_t length) {
+    static uint8_t draft[51266];
+    return bench_declare(text, length, draft, sizeof draft);
+}
 
 static int refused(const char *name, const uint8_t *text, size_t length) {
-    if (bench_declare(text, length)) return 0;
+    if (declare(text, length)) return 0;
     printf("%s is refused\n", name);
     return 1;
 }
@@ -29,10 +34,10 @@ static void measure(const char *name, const uint8_t *text, size_t length) {
     char line[64];
     if (refused(name, text, length)) return;
     sprintf(line, "rows, %s", name);
-    compare(line, bench_declare, classes, text, length);
+    compare(line, declare, classes, text, length);
 #ifdef AVRO
     sprintf(line, "rows beside avro-c, %s", name);
-    if (avro_c(text, length)) compare(line, bench_declare, avro_c, text, length);
+    if (avro_c(text, length)) compare(line, declare, avro_c, text, length);
 #endif
 }
 
@@ -40,7 +45,7 @@ static void time_of(const char *name, const uint8_t *text, size_t length) {
     double best = 1e18;
     if (refused(name, text, length)) return;
     for (int round = 0; round < 5; round++) {
-        double ours = nanoseconds(bench_declare, text, length, calls(bench_declare, text, length));
+        double ours = nanoseconds(declare, text, length, calls(declare, text, length));
         if (ours < best) best = ours;
     }
     printf("rows, %-22s %7zu bytes  %9.1f microseconds\n", name, length, best / 1000);
@@ -55,6 +60,9 @@ int main(void) {
         measure("deep nesting", text, deep_record(text, rooms[i]));
         measure("large enum", text, large_enum(text, rooms[i]));
     }
+    measure("20 fields", text, plain_record(text, 32768, 20));
+    measure("160 fields", text, plain_record(text, 32768, 160));
+    measure("60 symbols", text, enum_of(text, 32768, 60));
     time_of("20 fields", text, plain_record(text, 32768, 20));
     time_of("160 fields", text, plain_record(text, 32768, 160));
     time_of("640 fields", text, plain_record(text, 32768, 640));

@@ -1,13 +1,12 @@
-/* add and replace on empty, small and full sets, beside the sum of the three things that add cannot do without: the scan of the text, its
-   walk, and one check of the memory. The walk scans too, so the scan is counted twice in the sum; it is small beside the others. */
+/* add and replace on empty, small and full sets, beside the sum of what add cannot do without: the walk of the text, which scans it, and
+   one check of the memory. */
 #include <string.h>
 #include "texts.h"
 #include "timing.h"
 #include "sets.h"
 #include <stdbool.h>
 
-extern uint64_t bench_scan(const uint8_t *text, size_t length);
-extern uint64_t bench_declare(const uint8_t *text, size_t length);
+extern uint64_t bench_declare(const uint8_t *text, size_t length, uint8_t *draft, size_t room);
 extern bool bench_well_formed(const uint8_t *memory, size_t length);
 extern uint64_t bench_add(uint8_t *memory, size_t length, const uint8_t *text, size_t text_length);
 extern uint64_t bench_replace(uint8_t *memory, size_t length, size_t place, const uint8_t *text, size_t text_length);
@@ -27,8 +26,9 @@ static uint64_t replace(const uint8_t *text, size_t length) {
 }
 
 static uint64_t parts(const uint8_t *text, size_t length) {
+    static uint8_t draft[LENGTH];
     memcpy(work_set.bytes, before.bytes, LENGTH);
-    return bench_scan(text, length) + bench_declare(text, length) + bench_well_formed(work_set.bytes, LENGTH);
+    return bench_declare(text, length, draft, LENGTH) + bench_well_formed(work_set.bytes, LENGTH);
 }
 
 static void measure(const char *name, work call, const uint8_t *text, size_t length) {

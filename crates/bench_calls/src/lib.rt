@@ -2,7 +2,6 @@
 use answer::Answer;
 use canonical::Written;
 use json::Scan;
-use row::Layout;
 use schema::Walked;
 ghost use mathlib.Core.Path.{_≡_};
 ghost use lib.ListN.{length};
@@ -32,13 +31,12 @@ pub extern "C" fn bench_scan(text: &[u8]) -> usize
     }
 }
 
-// How many rows a declaration has, 0 where it is refused.
+// How many rows a declaration has, 0 where it is refused; they are in the draft.
 #[no_mangle]
-pub extern "C" fn bench_declare(text: &[u8]) -> usize
+pub extern "C" fn bench_declare(text: &[u8], draft: &mut [u8]) -> usize
     ensures { λ r. ⌜ r ≡ rowsRead (declared (now (text .entry))) ⌝ }
 {
-    let mut draft = [0u8; Layout::LENGTH];
-    match schema::declare(text, &mut draft) {
+    match schema::declare(text, draft) {
         Walked::Read(counts) => counts.rows,
         Walked::Bad(_) => 0,
     }

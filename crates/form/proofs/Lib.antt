@@ -3,4 +3,5 @@ mod Places
 mod Shapes
 mod Decimal
 mod Written
+mod Words
 pub mod Laws

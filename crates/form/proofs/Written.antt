@@ -11,14 +11,14 @@ use lib.ListN.{length, take, drop}
 use lib.Seq.{take-append-seam}
 use borrow.Author.Tests.{le-leb, lt-leb}
 use Rattle.answer.specs.declared.refusal.Fault.{Fault}
-use Rattle.answer.specs.declared.refusal.Why.the-variants.{StringTooLong, Reserved}
-use Rattle.ground.specs.Bytes.{store}
-use Rattle.ground.proofs.Laws.{length-store, store-fits}
+use Rattle.answer.specs.declared.refusal.Why.the-variants.{NotAName, StringTooLong, Reserved}
+use Rattle.ground.specs.Bytes.{part, store}
+use Rattle.ground.proofs.Laws.{length-part, length-store, store-fits}
 use Rattle.name.specs.declared.qualify.Full.{Full}
 use Rattle.name.specs.declared.qualify.Full.the-variants.{Fits, TooLong}
-use Rattle.name.specs.Name.{isSimple, isName, isNamespace, hasDot, fullName, isReserved}
+use Rattle.name.specs.Name.{isEmpty, isSimple, isName, isNamespace, hasDot, fullName, isReserved}
 use Rattle.name.specs.Full.{isShort, answerOf, bufferAfter}
-use Rattle.name.proofs.Laws.{full-reserved, fits-length, too-long, buffer-short, buffer-long}
+use Rattle.name.proofs.Laws.{plain-lead, length-full, full-reserved, fits-length, too-long, buffer-short, buffer-long}
 use Rattle.view.specs.declared.space.Spot.{Spot}
 use Rattle.view.specs.declared.space.Spot.the-variants.{At, Nowhere}
 use Rattle.view.specs.declared.members.Members.{Members}
@@ -30,7 +30,7 @@ use Rattle.form.specs.declared.names.Named.{Named}
 use Rattle.form.specs.declared.names.Named.the-variants.{Kept, Wrong}
 use Rattle.form.specs.Checks.{fault, must, _then_}
 use Rattle.form.specs.Spots.{onSpot, asText}
-use Rattle.form.specs.Names.{notAName, kept, unreserved, simpleCheck, fullAt, referenceCheck, aliasCheck, namespaceOf, definedAt, namespaceCheck, definitionCheck, named, keptIn}
+use Rattle.form.specs.Names.{notAName, kept, unreserved, simpleCheck, fullAt, referenceCheck, aliasCheck, namespaceOf, definedAt, namespaceCheck, spacedCheck, definitionCheck, named, keptIn}
 
 -- ---- a string of the text in a buffer that has room for the text: `&all[0..n]` can be lent, and it is the string
 
@@ -43,13 +43,34 @@ front-is s m m′ n e f h =
     let w : 0 + length s ≤ length m = omega arith in
     rw (f, e, sub-zero, store-fits m 0 s w) (take-append-seam s (drop (0 + length s) m))
 
+pub copied-fit : (s : List ℕ) {n : ℕ} (m : List ℕ) {m′ : List ℕ} → (n ≡ length s) × (m′ ≡ store m 0 s) → n ≤ length m → Copied s n m′
+copied-fit s {n} m {m′} e h =
+    let b = ap length (e .1) ∙ length-store m 0 s in
+    let c = e .0 in
+    record { room = omega arith; front = front-is s m m′ n (e .0) (e .1) (omega arith) }
+
 pub copied : (t : List ℕ) (q : ℕ) {n : ℕ} (m : List ℕ) {m′ : List ℕ} → (n ≡ length (stringAt t q)) × (m′ ≡ store m 0 (stringAt t q))
     → length t ≤ 32768 → length m ≡ 32768 → Copied (stringAt t q) n m′
 copied t q {n} m {m′} e h k =
     let a = string-short t q in
-    let b = ap length (e .1) ∙ length-store m 0 (stringAt t q) in
-    let c = e .0 in
-    record { room = omega arith; front = front-is (stringAt t q) m m′ n (e .0) (e .1) (omega arith) }
+    let b = e .0 in
+    copied-fit (stringAt t q) m e (omega arith)
+
+-- the front of a buffer, as it is lent
+lent-front : (m : List ℕ) (n : ℕ) → take (n - 0) (drop 0 m) ≡ part m 0 n
+unfolding part
+lent-front m n = rw sub-zero
+
+-- a name without a dot there
+pub spaced-plain : (m : List ℕ) (n : ℕ) {b : Bool} → b ≡ hasDot (take (n - 0) (drop 0 m)) → b ≡ false → hasDot (part m 0 n) ≡ false
+spaced-plain m n e f = sym (e ∙ ap hasDot (lent-front m n)) ∙ f
+
+-- moved to another buffer that has room for it
+pub moved : (m own : List ℕ) (n : ℕ) {own′ : List ℕ} → own′ ≡ store own 0 (take (n - 0) (drop 0 m)) → n ≤ length m → n ≤ length own
+    → take (n - 0) (drop 0 own′) ≡ part m 0 n
+moved m own n {own′} e h k =
+    let l = length-part m 0 n (omega arith) in
+    front-is (part m 0 n) own own′ n (sym l) (e ∙ ap (λ (x : List ℕ). store own 0 x) (lent-front m n)) (omega arith)
 
 -- ---- the answer and the buffer, for a check, a full name f, the buffer before and afterwards
 
@@ -81,22 +102,23 @@ named-wrong (Bad y) f {x} e = let z : x ≡ y = cc in ap Bad (sym z)
 pub kept-copied : (c : Check) (f m : List ℕ) {m′ : List ℕ} {n : ℕ} → Kept n ≡ named c f → m′ ≡ keptIn m c f → length f ≤ 255 → length m ≡ 255 → Copied f n m′
 kept-copied Fine f m {m′} {n} e g h k =
     let z : n ≡ length f = cc in
-    let l = ap length g ∙ length-store m 0 f in
-    record { room = omega arith; front = front-is f m m′ n z g (omega arith) }
+    copied-fit f m (z, g) (omega arith)
 kept-copied (Bad x) f m e g h k = let z : _≡_ {A = ℕ} 0 1 = cc in absurd (omega arith)
 
 -- ---- simple names
 
-module _ (t : List ℕ) (q : ℕ) {w : List ℕ} (e : w ≡ stringAt t q) {b : Bool} (f : b ≡ isSimple w) where
-  pub simple-not : b ≡ false → {x : Fault} → x ≡ notAName t q → Bad x ≡ simpleCheck t q
-  unfolding simpleCheck
-  simple-not g h = rw (← e, ← f, g, h)
+module _ (w : List ℕ) (q : ℕ) {b : Bool} (f : b ≡ isSimple w) where
+  pub simple-not : b ≡ false → Bad (fault NotAName q) ≡ (must (isSimple w) (fault NotAName q) then kept w q)
+  simple-not g = rw (← f, g)
 
-  pub simple-kept : b ≡ true → {n : ℕ} → n ≡ length (stringAt t q) → {r : Check} → r ≡ must (leb n 255) (fault StringTooLong q) → r ≡ simpleCheck t q
-  unfolding simpleCheck isShort
-  simple-kept g h i = rw (← e, ← f, g) (rw (h, ← e) at i)
+  pub simple-kept : b ≡ true → {r : Check} → r ≡ must (leb (length w) 255) (fault StringTooLong q) → r ≡ (must (isSimple w) (fault NotAName q) then kept w q)
+  unfolding isShort
+  simple-kept g i = rw (← f, g) i
 
--- ---- full names
+-- of the string at q
+pub simple-at : (t : List ℕ) (q : ℕ) {w : List ℕ} → w ≡ stringAt t q → {r : Check} → r ≡ (must (isSimple w) (fault NotAName q) then kept w q) → r ≡ simpleCheck t q
+unfolding simpleCheck
+simple-at t q e h = h ∙ rw e
 
 module _ (f m m′ : List ℕ) (q : ℕ) {a : Full} (e : (a ≡ answerOf f) × (m′ ≡ bufferAfter m f)) where
   pub keep-fits : {n : ℕ} → a ≡ Fits n → Answers (kept f q) f m m′ (Kept n)
@@ -110,6 +132,10 @@ module _ (f m m′ : List ℕ) (q : ℕ) {a : Full} (e : (a ≡ answerOf f) × (
   keep-long g =
       let z = too-long f (sym (e .0) ∙ g) in
       rw (lt-leb (length f) 255 z) (refl, e .1 ∙ buffer-long f m z)
+
+kept-long : (f m : List ℕ) (q : ℕ) → 255 < length f → Answers (kept f q) f m m (Wrong (fault StringTooLong q))
+unfolding isShort
+kept-long f m q h = rw (lt-leb (length f) 255 h) (refl, refl)
 
 module _ (namespace s m : List ℕ) (q : ℕ) {b : Bool} (e : b ≡ isReserved s) where
   pub given-reserved : b ≡ true
@@ -150,6 +176,50 @@ module _ (t namespace : List ℕ) (q : ℕ) (m : List ℕ) {w : List ℕ} (e : w
         answers-next (must (isName (stringAt t q)) (notAName t q))
         (unreserved (fullName namespace (stringAt t q)) q then kept (fullName namespace (stringAt t q)) q) (fullName namespace (stringAt t q)) m m′ r
         (passes isName (notAName t q) e f g) (rw e at h)
+
+-- ---- a name without a dot, in the namespace that is written at w
+
+-- a full name is at least as long as its name
+full-longer : (namespace s : List ℕ) → hasDot s ≡ false → length s ≤ length (fullName namespace s)
+full-longer namespace s e = go (isEmpty namespace) refl
+  where
+    go : (x : Bool) → isEmpty namespace ≡ x → length s ≤ length (fullName namespace s)
+    go true f = omega (arith, rw (e, f, plain-lead s e) at (length-full namespace s))
+    go false f = omega (arith, rw (e, f) at (length-full namespace s))
+
+module _ (t : List ℕ) (w n q : ℕ) (word m : List ℕ) {v : List ℕ} (o : v ≡ stringAt t w) {y : Bool} (z : y ≡ isNamespace v) where
+  pub spaced-not : y ≡ false → {x : Fault} → x ≡ notAName t w → Answers (spacedCheck t w (part word 0 n) q) (fullName (stringAt t w) (part word 0 n)) m m (Wrong x)
+  unfolding spacedCheck
+  spaced-not u {x} h =
+      answers-bad (must (isNamespace (stringAt t w)) (notAName t w))
+      (unreserved (fullName (stringAt t w) (part word 0 n)) q then kept (fullName (stringAt t w) (part word 0 n)) q) (fullName (stringAt t w) (part word 0 n)) m x
+      (fails isNamespace o z u h)
+
+  module _ (u : y ≡ true) {b : Bool} (e : b ≡ isReserved (take (n - 0) (drop 0 word))) where
+    spaced-by : {m′ : List ℕ} {r : Named}
+        → Answers (unreserved (fullName v (part word 0 n)) q then kept (fullName v (part word 0 n)) q) (fullName v (part word 0 n)) m m′ r
+        → Answers (spacedCheck t w (part word 0 n) q) (fullName (stringAt t w) (part word 0 n)) m m′ r
+    unfolding spacedCheck
+    spaced-by {m′} {r} h =
+        answers-next (must (isNamespace (stringAt t w)) (notAName t w))
+        (unreserved (fullName (stringAt t w) (part word 0 n)) q then kept (fullName (stringAt t w) (part word 0 n)) q) (fullName (stringAt t w) (part word 0 n)) m m′ r
+        (passes isNamespace (notAName t w) o z u) (rw o at h)
+
+    pub spaced-reserved : b ≡ true → Answers (spacedCheck t w (part word 0 n) q) (fullName (stringAt t w) (part word 0 n)) m m (Wrong (fault Reserved q))
+    spaced-reserved f = spaced-by (given-reserved v (part word 0 n) m q (e ∙ ap isReserved (lent-front word n)) f)
+
+    module _ (f : b ≡ false) where
+      -- s: the name from where it was moved to
+      pub spaced-kept : {s : List ℕ} → s ≡ part word 0 n → {m′ : List ℕ} {r : Named} → Answers (kept (fullName v s) q) (fullName v s) m m′ r
+          → Answers (spacedCheck t w (part word 0 n) q) (fullName (stringAt t w) (part word 0 n)) m m′ r
+      spaced-kept i h = spaced-by (given-free v (part word 0 n) m q (e ∙ ap isReserved (lent-front word n)) f (rw i at h))
+
+      pub spaced-long : n ≤ length word → hasDot (part word 0 n) ≡ false → 255 < n
+          → Answers (spacedCheck t w (part word 0 n) q) (fullName (stringAt t w) (part word 0 n)) m m (Wrong (fault StringTooLong q))
+      spaced-long h d l =
+          let a = full-longer v (part word 0 n) d in
+          let b = length-part word 0 n (omega arith) in
+          spaced-kept refl (kept-long (fullName v (part word 0 n)) m q (omega arith))
 
 -- ---- definitions
 
@@ -206,20 +276,13 @@ module _ (t enclosing : List ℕ) (d : Members) (q : ℕ) (m : List ℕ) {w : Li
             → Answers (definitionCheck t enclosing d q) (definedAt t enclosing d q) m m′ r
         definition-enclosed k u = named-in enclosing (space-by k) (full-by k) u
 
-        module _ {p : ℕ} (k : s ≡ At p) {v : List ℕ} (o : v ≡ stringAt t p) {y : Bool} (z : y ≡ isNamespace v) where
-          pub definition-space-not : y ≡ false → {x : Fault} → x ≡ notAName t p
-              → Answers (definitionCheck t enclosing d q) (definedAt t enclosing d q) m m (Wrong x)
-          unfolding definitionCheck
-          definition-space-not u {x} h =
-              answers-next (must (isName (stringAt t q)) (notAName t q))
-              (namespaceCheck t d q then unreserved (definedAt t enclosing d q) q then kept (definedAt t enclosing d q) q) (definedAt t enclosing d q) m m (Wrong x)
-              (passes isName (notAName t q) e f g)
-              (answers-bad (namespaceCheck t d q) (unreserved (definedAt t enclosing d q) q then kept (definedAt t enclosing d q) q) (definedAt t enclosing d q) m x
-              (space-by k ∙ fails isNamespace o z u h))
-
-          pub definition-space : y ≡ true → {m′ : List ℕ} {r : Named}
-              → Answers (unreserved (fullName v w) q then kept (fullName v w) q) (fullName v w) m m′ r
-              → Answers (definitionCheck t enclosing d q) (definedAt t enclosing d q) m m′ r
-          definition-space u h =
-              named-in v (space-by k ∙ passes isNamespace (notAName t p) o z u)
-              (full-by k ∙ ap (λ (x : List ℕ). fullName x (stringAt t q)) (sym o)) h
+        -- the name, copied, in the first n bytes of a buffer
+        pub definition-space : {p : ℕ} → s ≡ At p → (word : List ℕ) (n : ℕ) → take (n - 0) (drop 0 word) ≡ stringAt t q → {m′ : List ℕ} {r : Named}
+            → Answers (spacedCheck t p (part word 0 n) q) (fullName (stringAt t p) (part word 0 n)) m m′ r
+            → Answers (definitionCheck t enclosing d q) (definedAt t enclosing d q) m m′ r
+        unfolding definitionCheck spacedCheck
+        definition-space {p} k word n l {m′} {r} h =
+            answers-next (must (isName (stringAt t q)) (notAName t q))
+            (namespaceCheck t d q then unreserved (definedAt t enclosing d q) q then kept (definedAt t enclosing d q) q) (definedAt t enclosing d q) m m′ r
+            (passes isName (notAName t q) e f g)
+            (rw (space-by k, full-by k) (rw (sym (lent-front word n) ∙ l) at h))

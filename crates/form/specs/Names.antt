@@ -68,6 +68,13 @@ definitionCheck t enclosing m q =
     then unreserved (definedAt t enclosing m q) q
     then kept (definedAt t enclosing m q) q
 
+-- what is left of it for a name s at q, without a dot, in the namespace that is written at w
+unfoldable pub spacedCheck : List ℕ → ℕ → List ℕ → ℕ → Check
+spacedCheck t w s q =
+    must (isNamespace (stringAt t w)) (notAName t w)
+    then unreserved (fullName (stringAt t w) s) q
+    then kept (fullName (stringAt t w) s) q
+
 -- ---- what is answered of a full name with its check, and what the buffer then holds that the name is kept in
 
 abbrev pub named : Check → List ℕ → Named

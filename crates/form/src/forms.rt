@@ -4,17 +4,22 @@ use super::spots::is_object;
 use super::spots::is_text;
 use answer::Fault;
 use answer::Why;
+use ground::same;
 use row::Kind;
 use view::Members;
 use view::Spot;
+use view::literal;
 use view::members_at;
-use view::string_is;
+use view::string_copy;
 ghost use mathlib.Core.Path.{_≡_};
 ghost use mathlib.Core.Bool.{cond};
 ghost use Rattle.answer.specs.declared.refusal.Why.the-variants.{NotASchema};
+ghost use Rattle.ground.specs.Bytes.{same};
+ghost use Rattle.row.specs.declared.kind.Kind.the-variants.{Reference};
 ghost use Rattle.view.specs.declared.space.Spot.the-variants.{Nowhere};
 ghost use Rattle.view.specs.Values.{shapeAt};
 ghost use Rattle.view.specs.Strings.{stringAt};
+ghost use Rattle.view.specs.Known.{Known};
 ghost use Rattle.form.specs.declared.forms.Form.the-variants as form;
 ghost use Rattle.form.specs.Checks.{fault};
 ghost use Rattle.form.specs.Spots.{isText, isArray};
@@ -38,57 +43,94 @@ pub struct Found {
     pub members: Members,
 }
 
-// The kind that a string names.
-pub fn word_kind(text: &[u8], at: usize) -> Kind
-    ensures { λ r. ⌜ r ≡ wordKind (stringAt (now (text .entry)) at) ⌝ }
+// The kind of a word that can be one of two.
+fn either(word: &[u8], one: &[u8], is: Kind, other: &[u8], or: Kind) -> Kind
+    ensures { λ r. ⌜ r ≡ cond (same (now (word .entry)) (now (one .entry))) is (cond (same (now (word .entry)) (now (other .entry))) or Reference) ⌝ }
 {
-    if string_is(text, at, b"null") {
-        return Kind::Null;
+    if same(word, one) {
+        return is;
     }
-    if string_is(text, at, b"boolean") {
-        return Kind::Boolean;
-    }
-    if string_is(text, at, b"int") {
-        return Kind::Int;
-    }
-    if string_is(text, at, b"long") {
-        return Kind::Long;
-    }
-    if string_is(text, at, b"float") {
-        return Kind::Float;
-    }
-    if string_is(text, at, b"double") {
-        return Kind::Double;
-    }
-    if string_is(text, at, b"bytes") {
-        return Kind::Bytes;
-    }
-    if string_is(text, at, b"string") {
-        return Kind::String;
+    if same(word, other) {
+        return or;
     }
     Kind::Reference
 }
 
-// The form of the object at `at`, whose `type` is the string at `typed`.
-fn object_form(text: &[u8], at: usize, typed: usize) -> Form
-    ensures { λ r. ⌜ r ≡ objectForm (stringAt (now (text .entry)) typed) at typed ⌝ }
+// The kind of a word. Its length leaves two to compare it with.
+fn kind_of(word: &[u8]) -> Kind
+    ensures { λ r. ⌜ r ≡ wordKind (now (word .entry)) ⌝ }
 {
-    if string_is(text, typed, b"record") {
+    let n = word.len();
+    if n == 4 {
+        return either(word, b"null", Kind::Null, b"long", Kind::Long);
+    }
+    if n == 5 {
+        return either(word, b"float", Kind::Float, b"bytes", Kind::Bytes);
+    }
+    if n == 6 {
+        return either(word, b"double", Kind::Double, b"string", Kind::String);
+    }
+    either(word, b"boolean", Kind::Boolean, b"int", Kind::Int)
+}
+
+// The kind that a string names.
+pub fn word_kind(text: &[u8], ends: &[u16], at: usize) -> Kind
+    requires { ⌜ Known (now text) (now ends) ⌝ }
+    ensures { λ r. ⌜ r ≡ wordKind (stringAt (now (text .entry)) at) ⌝ }
+{
+    let e = literal(text, ends, at);
+    if 0 < e {
+        let start = at + 1;
+        let stop = e - 1;
+        return kind_of(&text[start..stop]);
+    }
+    let mut word: [u8; 16] = [0; 16];
+    let n = string_copy(text, ends, at, &mut word);
+    if 16 < n {
+        return Kind::Reference;
+    }
+    kind_of(&word[0..n])
+}
+
+// The form of an object at `at`, whose `type` is the word, at `typed`.
+fn form_of(word: &[u8], at: usize, typed: usize) -> Form
+    ensures { λ r. ⌜ r ≡ objectForm (now (word .entry)) at typed ⌝ }
+{
+    if same(word, b"record") {
         return Form::RecordOf(at);
     }
-    if string_is(text, typed, b"enum") {
+    if same(word, b"enum") {
         return Form::EnumOf(at);
     }
-    if string_is(text, typed, b"fixed") {
+    if same(word, b"fixed") {
         return Form::FixedOf(at);
     }
-    if string_is(text, typed, b"array") {
+    if same(word, b"array") {
         return Form::ArrayOf(at);
     }
-    if string_is(text, typed, b"map") {
+    if same(word, b"map") {
         return Form::MapOf(at);
     }
     Form::Word(typed, Spot::At(at))
+}
+
+// The form of the object at `at`, whose `type` is the string at `typed`.
+fn object_form(text: &[u8], ends: &[u16], at: usize, typed: usize) -> Form
+    requires { ⌜ Known (now text) (now ends) ⌝ }
+    ensures { λ r. ⌜ r ≡ objectForm (stringAt (now (text .entry)) typed) at typed ⌝ }
+{
+    let e = literal(text, ends, typed);
+    if 0 < e {
+        let start = typed + 1;
+        let stop = e - 1;
+        return form_of(&text[start..stop], at, typed);
+    }
+    let mut word: [u8; 16] = [0; 16];
+    let n = string_copy(text, ends, typed, &mut word);
+    if 16 < n {
+        return Form::Word(typed, Spot::At(at));
+    }
+    form_of(&word[0..n], at, typed)
 }
 
 // A form that goes by no object.
@@ -135,7 +177,8 @@ fn other_form(text: &[u8], at: usize) -> Found
 }
 
 // What the schema at a place is: an object whose `type` is no string stands for the schema there.
-pub fn find(text: &[u8], at: usize) -> Found
+pub fn find(text: &[u8], ends: &[u16], at: usize) -> Found
+    requires { ⌜ Known (now text) (now ends) ⌝ }
     ensures { λ r. ⌜ r ≡ foundOf (now (text .entry)) (formOf (now (text .entry)) at) ⌝ }
 {
     let mut p = at;
@@ -144,13 +187,13 @@ pub fn find(text: &[u8], at: usize) -> Found
         if !is_object(text, p) {
             return other_form(text, p);
         }
-        let members = members_at(text, p);
+        let members = members_at(text, ends, p);
         let typed = members.typed;
         let Spot::At(q) = typed else {
             return wrong(Why::TypeMissing, p);
         };
         if is_text(text, q) {
-            let form = object_form(text, p, q);
+            let form = object_form(text, ends, p, q);
             return Found { form, members };
         }
         p = q;

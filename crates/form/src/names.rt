@@ -4,6 +4,7 @@ use super::check::must;
 use super::spots::as_text;
 use answer::Fault;
 use answer::Why;
+use ground::copy;
 use name::Full;
 use name::full_name;
 use name::has_dot;
@@ -13,15 +14,19 @@ use name::is_reserved;
 use name::is_simple;
 use view::Members;
 use view::Spot;
+use view::literal;
 use view::string_copy;
 ghost use mathlib.Core.Path.{_≡_};
+ghost use mathlib.Core.Bool.{false};
 ghost use Prim.Native.Nat.{_≤_};
 ghost use lib.ListN.{length};
-ghost use Rattle.ground.specs.Bytes.{store};
-ghost use Rattle.name.specs.Name.{fullName};
+ghost use Rattle.ground.specs.Bytes.{part, store};
+ghost use Rattle.answer.specs.declared.refusal.Why.the-variants.{NotAName};
+ghost use Rattle.name.specs.Name.{isSimple, hasDot, fullName};
 ghost use Rattle.view.specs.Strings.{stringAt};
-ghost use Rattle.form.specs.Checks.{_then_};
-ghost use Rattle.form.specs.Names.{notAName, kept, unreserved, simpleCheck, fullAt, referenceCheck, aliasCheck, definedAt, definitionCheck, named, keptIn};
+ghost use Rattle.view.specs.Known.{Known};
+ghost use Rattle.form.specs.Checks.{fault, must, _then_};
+ghost use Rattle.form.specs.Names.{notAName, kept, unreserved, simpleCheck, fullAt, referenceCheck, aliasCheck, definedAt, spacedCheck, definitionCheck, named, keptIn};
 
 // What became of a full name: its length, it being kept, or the fault.
 pub enum Named {
@@ -39,17 +44,33 @@ fn not_a_name(text: &[u8], at: usize) -> Fault
     }
 }
 
-// A field's name or alias, a symbol: the string at `at` must be a simple name.
-pub fn simple_check(text: &[u8], at: usize, word: &mut [u8; 32768]) -> Check
-    requires { ⌜ length (now text) ≤ 32768 ⌝ }
-    ensures { λ r. ⌜ (r ≡ simpleCheck (now (text .entry)) at) × (now (word .exit) ≡ store (now (word .entry)) 0 (stringAt (now (text .entry)) at)) ⌝ }
+// A simple name that can be kept, written at `at`: 7, 9.
+fn simple(written: &[u8], at: usize) -> Check
+    ensures { λ r. ⌜ r ≡ must (isSimple (now (written .entry))) (fault NotAName at) then kept (now (written .entry)) at ⌝ }
 {
-    let n = string_copy(text, at, word);
-    let all = &word[..];
-    if !is_simple(&all[0..n]) {
-        return Check::Bad(not_a_name(text, at));
+    if !is_simple(written) {
+        return Check::Bad(Fault {
+            why: Why::NotAName,
+            at,
+        });
     }
-    must(n <= Full::LONGEST, Why::StringTooLong, at)
+    must(written.len() <= Full::LONGEST, Why::StringTooLong, at)
+}
+
+// A field's name or alias, a symbol: the string at `at` must be a simple name.
+pub fn simple_check(text: &[u8], ends: &[u16], at: usize, word: &mut [u8; 32768]) -> Check
+    requires { ⌜ (length (now text) ≤ 32768) × Known (now text) (now ends) ⌝ }
+    ensures { λ r. ⌜ r ≡ simpleCheck (now (text .entry)) at ⌝ }
+{
+    let e = literal(text, ends, at);
+    if 0 < e {
+        let start = at + 1;
+        let stop = e - 1;
+        return simple(&text[start..stop], at);
+    }
+    let n = string_copy(text, ends, at, word);
+    let all = &word[..];
+    simple(&all[0..n], at)
 }
 
 // The full name of what is written at `at`, in a namespace: 9.
@@ -81,15 +102,16 @@ fn given(namespace: &[u8], written: &[u8], at: usize, full: &mut [u8; 255]) -> N
 // A reference: 7, 9.
 pub fn reference(
     text: &[u8],
+    ends: &[u16],
     namespace: &[u8],
     at: usize,
     word: &mut [u8; 32768],
     full: &mut [u8; 255],
 ) -> Named
-    requires { ⌜ length (now text) ≤ 32768 ⌝ }
+    requires { ⌜ (length (now text) ≤ 32768) × Known (now text) (now ends) ⌝ }
     ensures { λ r. ⌜ (r ≡ named (referenceCheck (now (text .entry)) (now (namespace .entry)) at) (fullAt (now (text .entry)) (now (namespace .entry)) at)) × (now (full .exit) ≡ keptIn (now (full .entry)) (referenceCheck (now (text .entry)) (now (namespace .entry)) at) (fullAt (now (text .entry)) (now (namespace .entry)) at)) ⌝ }
 {
-    let n = string_copy(text, at, word);
+    let n = string_copy(text, ends, at, word);
     let all = &word[..];
     if !is_name(&all[0..n]) {
         return Named::Wrong(not_a_name(text, at));
@@ -100,15 +122,16 @@ pub fn reference(
 // An alias of a definition, in the definition's own namespace: 7, 8, 9.
 pub fn alias(
     text: &[u8],
+    ends: &[u16],
     namespace: &[u8],
     at: usize,
     word: &mut [u8; 32768],
     full: &mut [u8; 255],
 ) -> Named
-    requires { ⌜ length (now text) ≤ 32768 ⌝ }
+    requires { ⌜ (length (now text) ≤ 32768) × Known (now text) (now ends) ⌝ }
     ensures { λ r. ⌜ (r ≡ named (aliasCheck (now (text .entry)) (now (namespace .entry)) at) (fullAt (now (text .entry)) (now (namespace .entry)) at)) × (now (full .exit) ≡ keptIn (now (full .entry)) (aliasCheck (now (text .entry)) (now (namespace .entry)) at) (fullAt (now (text .entry)) (now (namespace .entry)) at)) ⌝ }
 {
-    let n = string_copy(text, at, word);
+    let n = string_copy(text, ends, at, word);
     let all = &word[..];
     if !is_name(&all[0..n]) {
         return Named::Wrong(not_a_name(text, at));
@@ -116,20 +139,58 @@ pub fn alias(
     given(namespace, &all[0..n], at, full)
 }
 
+// The name without a dot in the first n bytes of `word`, in the namespace that is written at `space`: the namespace's 7,
+// 8, 9. The name moves to an array of its own, as far as one is kept, and the namespace takes its place.
+fn in_namespace(
+    text: &[u8],
+    ends: &[u16],
+    space: usize,
+    n: usize,
+    at: usize,
+    word: &mut [u8; 32768],
+    full: &mut [u8; 255],
+) -> Named
+    requires { ⌜ (length (now text) ≤ 32768) × Known (now text) (now ends) × (n ≤ 32768) × (hasDot (part (now word) 0 n) ≡ false) ⌝ }
+    ensures { λ r. ⌜ (r ≡ named (spacedCheck (now (text .entry)) space (part (now (word .entry)) 0 n) at) (fullName (stringAt (now (text .entry)) space) (part (now (word .entry)) 0 n))) × (now (full .exit) ≡ keptIn (now (full .entry)) (spacedCheck (now (text .entry)) space (part (now (word .entry)) 0 n) at) (fullName (stringAt (now (text .entry)) space) (part (now (word .entry)) 0 n))) ⌝ }
+{
+    let mut own: [u8; 255] = [0; 255];
+    let all = &word[..];
+    let reserved = is_reserved(&all[0..n]);
+    copy(&mut own, 0, &all[0..n]);
+    let k = string_copy(text, ends, space, word);
+    let namespace = &word[..];
+    if !is_namespace(&namespace[0..k]) {
+        return Named::Wrong(not_a_name(text, space));
+    }
+    if reserved {
+        return Named::Wrong(Fault {
+            why: Why::Reserved,
+            at,
+        });
+    }
+    if Full::LONGEST < n {
+        return Named::Wrong(Fault {
+            why: Why::StringTooLong,
+            at,
+        });
+    }
+    qualified(&namespace[0..k], &own[0..n], at, full)
+}
+
 // A definition with these members, its name at `at`: 7, the namespace's 7, 8, 9.
 pub fn definition(
     text: &[u8],
+    ends: &[u16],
     enclosing: &[u8],
     members: Members,
     at: usize,
     word: &mut [u8; 32768],
-    space: &mut [u8; 32768],
     full: &mut [u8; 255],
 ) -> Named
-    requires { ⌜ length (now text) ≤ 32768 ⌝ }
+    requires { ⌜ (length (now text) ≤ 32768) × Known (now text) (now ends) ⌝ }
     ensures { λ r. ⌜ (r ≡ named (definitionCheck (now (text .entry)) (now (enclosing .entry)) members at) (definedAt (now (text .entry)) (now (enclosing .entry)) members at)) × (now (full .exit) ≡ keptIn (now (full .entry)) (definitionCheck (now (text .entry)) (now (enclosing .entry)) members at) (definedAt (now (text .entry)) (now (enclosing .entry)) members at)) ⌝ }
 {
-    let n = string_copy(text, at, word);
+    let n = string_copy(text, ends, at, word);
     let all = &word[..];
     if !is_name(&all[0..n]) {
         return Named::Wrong(not_a_name(text, at));
@@ -141,10 +202,5 @@ pub fn definition(
     let Spot::At(q) = as_text(text, namespace) else {
         return given(enclosing, &all[0..n], at, full);
     };
-    let k = string_copy(text, q, space);
-    let whole = &space[..];
-    if !is_namespace(&whole[0..k]) {
-        return Named::Wrong(not_a_name(text, q));
-    }
-    given(&whole[0..k], &all[0..n], at, full)
+    in_namespace(text, ends, q, n, at, word, full)
 }

@@ -7,6 +7,7 @@ use view::size_literal;
 use view::string_is;
 ghost use mathlib.Core.Path.{_≡_};
 ghost use Rattle.form.specs.Notes.{noted, compared, withScale, withPrecision, isDecimal, noteOf};
+ghost use Rattle.view.specs.Known.{Known};
 
 // The note, 0 where there is no decimal; precision and scale where it is 1.
 pub struct Note {
@@ -67,21 +68,23 @@ fn with_precision(text: &[u8], members: Members) -> Note
     }
 }
 
-fn is_decimal(text: &[u8], members: Members) -> bool
+fn is_decimal(text: &[u8], ends: &[u16], members: Members) -> bool
+    requires { ⌜ Known (now text) (now ends) ⌝ }
     ensures { λ r. ⌜ r ≡ isDecimal (now (text .entry)) members ⌝ }
 {
     let spot = members.logical_type;
     let Spot::At(p) = as_text(text, spot) else {
         return false;
     };
-    string_is(text, p, b"decimal")
+    string_is(text, ends, p, b"decimal")
 }
 
 // The note of the object with these members, whose own `type` is the string `bytes` or `fixed`.
-pub fn decimal_note(text: &[u8], members: Members) -> Note
+pub fn decimal_note(text: &[u8], ends: &[u16], members: Members) -> Note
+    requires { ⌜ Known (now text) (now ends) ⌝ }
     ensures { λ r. ⌜ r ≡ noteOf (now (text .entry)) members ⌝ }
 {
-    if is_decimal(text, members) {
+    if is_decimal(text, ends, members) {
         return with_precision(text, members);
     }
     noted(0)

@@ -7,6 +7,7 @@ use view::shape_at;
 ghost use mathlib.Core.Path.{_≡_};
 ghost use Rattle.view.specs.Values.{shapeAt};
 ghost use Rattle.view.specs.Elements.{elements, elementsAt};
+ghost use Rattle.view.specs.Known.{Known};
 ghost use Rattle.form.specs.Spots.{isText, isObject, isArray, asText, asArray, allTexts, aliasesIn};
 
 // Does a string stand here?
@@ -78,7 +79,8 @@ pub fn as_array(text: &[u8], spot: Spot) -> Spot
 }
 
 // Are all elements of the array at a place strings?
-pub fn all_texts(text: &[u8], array: usize) -> bool
+pub fn all_texts(text: &[u8], ends: &[u16], array: usize) -> bool
+    requires { ⌜ Known (now text) (now ends) ⌝ }
     ensures { λ r. ⌜ r ≡ allTexts (now (text .entry)) (elements (now (text .entry)) array) ⌝ }
 {
     let mut spot = first_element(text, array);
@@ -89,18 +91,19 @@ pub fn all_texts(text: &[u8], array: usize) -> bool
         if !is_text(text, p) {
             return false;
         }
-        spot = next_element(text, p);
+        spot = next_element(text, ends, p);
     }
 }
 
 // The first of the strings of `aliases`, whose value is at the place; the others are the elements behind it.
-pub fn first_alias(text: &[u8], spot: Spot) -> Spot
+pub fn first_alias(text: &[u8], ends: &[u16], spot: Spot) -> Spot
+    requires { ⌜ Known (now text) (now ends) ⌝ }
     ensures { λ r. ⌜ elementsAt (now (text .entry)) r ≡ aliasesIn (now (text .entry)) spot ⌝ }
 {
     let Spot::At(p) = as_array(text, spot) else {
         return Spot::Nowhere;
     };
-    if all_texts(text, p) {
+    if all_texts(text, ends, p) {
         return first_element(text, p);
     }
     Spot::Nowhere

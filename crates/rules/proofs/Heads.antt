@@ -3,20 +3,22 @@
 use mathlib.Core.Path.{_≡_, refl, sym, ap, ap₂, _∙_}
 use mathlib.Core.Bool.{Bool, true, false, not, cond, _&&_, _||_}
 use mathlib.Core.List.{List, [], _∷_}
-use Prim.Native.Nat.{ℕ, _-_, _<_, _≤_}
+use Prim.Native.Nat.{ℕ, _+_, _-_, _<_, _≤_}
+use native.Mathlib.Nat.{sub-zero}
 use native.Mathlib.Omega.{arith}
 use lib.Dec.{eqb}
 use lib.ListN.{length, take, drop}
+use lib.Seq.{take-append-seam}
 use borrow.Author.Tests.{eq-eqb, ne-eqb}
 use Rattle.answer.specs.declared.refusal.Fault.{Fault}
 use Rattle.answer.specs.declared.refusal.Why.the-variants.{UnionRuleBroken}
-use Rattle.ground.specs.Bytes.{same}
-use Rattle.ground.proofs.Laws.{same-unlike}
+use Rattle.ground.specs.Bytes.{same, store}
+use Rattle.ground.proofs.Laws.{same-unlike, store-fits}
 use Rattle.name.specs.declared.qualify.Full.{Full}
 use Rattle.name.specs.declared.qualify.Full.the-variants.{Fits, TooLong}
-use Rattle.name.specs.Name.{fullName}
+use Rattle.name.specs.Name.{isEmpty, hasDot, startsWithDot, fullName}
 use Rattle.name.specs.Full.{answerOf, bufferAfter}
-use Rattle.name.proofs.Laws.{too-long, buffer-length, fits-room, fits-front}
+use Rattle.name.proofs.Laws.{length-full, too-long, buffer-length, fits-room, fits-front}
 use Rattle.row.specs.Kinds.{kindNumber}
 use Rattle.row.specs.declared.kind.Kind.{Kind}
 use Rattle.row.specs.declared.kind.Kind.the-variants.{Null, Boolean, Int, Long, Float, Double, Bytes, String, Reference, Array, Map, Union, Record, Enum, Fixed, Field, Symbol, Alias, FieldAlias}
@@ -188,6 +190,27 @@ module _ (t namespace : List ℕ) (q : ℕ) {w : List ℕ} (e : w ≡ stringAt t
     unfolding fullAt
     named-same i = i ∙ ap (λ (l : List ℕ). same l name) (fits-front (fullName namespace w) m m′ a (f .0) (f .1) k g as-long) ∙ rw e
 
+-- of a name at most a leading dot is dropped
+full-shrinks : (namespace s : List ℕ) → length s ≤ length (fullName namespace s) + 1
+full-shrinks namespace s = go (not (hasDot s) && not (isEmpty namespace)) (startsWithDot s) (length-full namespace s)
+  where
+    go : (x y : Bool) {n : ℕ} → n ≡ cond x (length namespace + 1 + length s) (cond y (length s - 1) (length s)) → length s ≤ n + 1
+    go true y e = omega arith
+    go false true e = omega arith
+    go false false e = omega arith
+
+pub name-long : (t namespace : List ℕ) (q : ℕ) {n : ℕ} → n ≡ length (stringAt t q) → (name : List ℕ) → length name ≤ 255 → 256 < n → false ≡ same (fullAt t namespace q) name
+unfolding fullAt
+name-long t namespace q e name short l =
+    let z = full-shrinks namespace (stringAt t q) in
+    sym (same-unlike (fullName namespace (stringAt t q)) name (λ (i : length (fullName namespace (stringAt t q)) ≡ length name). omega arith))
+
+-- a string in a buffer that has room for it
+pub stored : (s m : List ℕ) {m′ : List ℕ} {n : ℕ} → (n ≡ length s) × (m′ ≡ store m 0 s) → n ≤ length m → take (n - 0) (drop 0 m′) ≡ s
+stored s m e h =
+    let w : 0 + length s ≤ length m = omega (arith, e .0, h) in
+    rw (e .1, e .0, sub-zero, store-fits m 0 s w) (take-append-seam s (drop (0 + length s) m))
+
 empty-same : (name : List ℕ) → eqb (length name) 0 ≡ same [] name
 unfolding same
 empty-same [] = refl
@@ -219,9 +242,8 @@ module _ (t enclosing : List ℕ) (m : Members) (name : List ℕ) {s : Spot} (e 
     pub definition-in : z ≡ Nowhere → {b : Bool} → b ≡ same (fullAt t enclosing p) name → b ≡ clash (definitionHead t enclosing m) (called name)
     definition-in i j = j ∙ sym (by-name ∙ full-in i)
 
-    pub definition-within : {q : ℕ} → z ≡ At q → {v : List ℕ} → v ≡ stringAt t q → {b : Bool} → b ≡ same (fullAt t v p) name
-        → b ≡ clash (definitionHead t enclosing m) (called name)
-    definition-within i {v} k j = j ∙ ap (λ (n : List ℕ). same (fullAt t n p) name) k ∙ sym (by-name ∙ full-in i)
+    pub definition-within : {q : ℕ} → z ≡ At q → {b : Bool} → b ≡ same (fullAt t (stringAt t q) p) name → b ≡ clash (definitionHead t enclosing m) (called name)
+    definition-within i j = j ∙ sym (by-name ∙ full-in i)
 
 -- ---- the members before
 

@@ -1,4 +1,5 @@
 mod Earlier
 mod Listed
+mod Entering
 mod Heads
 pub mod Laws

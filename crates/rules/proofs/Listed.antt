@@ -16,14 +16,14 @@ use Rattle.view.specs.declared.space.Spot.{Spot}
 use Rattle.view.specs.declared.space.Spot.the-variants.{At, Nowhere}
 use Rattle.view.specs.Values.{shapeAt}
 use Rattle.view.specs.Strings.{stringAt}
-use Rattle.view.specs.Members.{membersOf}
-use Rattle.view.specs.declared.members.Members.{Members}
+use Rattle.view.specs.Members.{membersOf, titlesOf}
+use Rattle.view.specs.declared.members.Titles.{Titles}
 use Rattle.view.specs.Elements.{firstElement, nextElement, elementsAt, elements}
 use Rattle.view.proofs.Laws.{left-start, left-done, left-next}
 use Rattle.form.specs.declared.check.Check.{Check}
 use Rattle.form.specs.declared.check.Check.the-variants.{Fine, Bad}
 use Rattle.form.specs.Checks.{fault, must, _then_, eachOf}
-use Rattle.form.specs.Spots.{onSpot, isText, isObject, asText, aliasesIn, objectsAmong, fieldsIn}
+use Rattle.form.specs.Spots.{onSpot, isText, isObject, asText, aliasesIn, objectsAmong}
 use Rattle.form.specs.Names.{simpleCheck}
 use Rattle.rules.specs.Unions.{before}
 use Rattle.rules.specs.Symbols.{symbolsNew, symbolsCheck, defaultCheck}
@@ -57,12 +57,16 @@ taken-some t at (p ∷ ps) =
     ap₂ _||_ (sym (taken-one t p (stringAt t at) (isObject (shapeAt t p)))) (taken-some t at ps)
     ∙ sym (one-of-append (cond (isObject (shapeAt t p)) (takenBy t p) []) (takenAmong t ps) (stringAt t at))
 
--- where a field's name is, by its members
-name-of : (t : List ℕ) (f : ℕ) {m : Members} → m ≡ membersOf t f → {q : ℕ} → q ≡ onSpot (asText t (m .name)) (λ p. p) f → q ≡ fieldNameAt t f
-unfolding fieldNameAt
-name-of t f d e = e ∙ ap (λ (m : Members). onSpot (asText t (m .name)) (λ p. p) f) d
+-- where a field's name is, and its aliases, by the members that name it
+pub name-of : (t : List ℕ) (f : ℕ) {m : Titles} → m ≡ titlesOf t f → {q : ℕ} → q ≡ onSpot (asText t (m .name)) (λ p. p) f → q ≡ fieldNameAt t f
+unfolding fieldNameAt membersOf titlesOf
+name-of t f d e = e ∙ ap (λ (m : Titles). onSpot (asText t (m .name)) (λ p. p) f) d
 
-module _ (t : List ℕ) (f at : ℕ) {m : Members} (d : m ≡ membersOf t f) {q : ℕ} (e : q ≡ onSpot (asText t (m .name)) (λ p. p) f) {b : Bool}
+pub aliases-of : (t : List ℕ) (f : ℕ) {m : Titles} → m ≡ titlesOf t f → m .aliases ≡ membersOf t f .aliases
+unfolding membersOf titlesOf
+aliases-of t f d = ap (λ (m : Titles). m .aliases) d
+
+module _ (t : List ℕ) (f at : ℕ) {m : Titles} (d : m ≡ titlesOf t f) {q : ℕ} (e : q ≡ onSpot (asText t (m .name)) (λ p. p) f) {b : Bool}
     (g : b ≡ same (stringAt t at) (stringAt t q)) where
   pub takes-name : b ≡ true → true ≡ isOneOf (takenBy t f) (stringAt t at)
   unfolding isOneOf takenBy
@@ -71,14 +75,14 @@ module _ (t : List ℕ) (f at : ℕ) {m : Members} (d : m ≡ membersOf t f) {q 
   pub takes-alias : b ≡ false → {c : Bool} → c ≡ isOneOf (map (stringAt t) (aliasesIn t (m .aliases))) (stringAt t at) → c ≡ isOneOf (takenBy t f) (stringAt t at)
   unfolding isOneOf takenBy
   takes-alias h i =
-      i ∙ ap (λ (m : Members). isOneOf (map (stringAt t) (aliasesIn t (m .aliases))) (stringAt t at)) d
+      i ∙ ap (λ (s : Spot). isOneOf (map (stringAt t) (aliasesIn t s)) (stringAt t at)) (aliases-of t f d)
       ∙ rw (← name-of t f d e, ← g, h)
 
-module _ (t : List ℕ) (f : ℕ) (m : Members) {s : Spot} (e : s ≡ asText t (m .name)) where
-  pub name-here : {p : ℕ} → s ≡ At p → p ≡ onSpot (asText t (m .name)) (λ q. q) f
+module _ (t : List ℕ) (f : ℕ) (name : Spot) {s : Spot} (e : s ≡ asText t name) where
+  pub name-here : {p : ℕ} → s ≡ At p → p ≡ onSpot (asText t name) (λ q. q) f
   name-here g = ap (λ (x : Spot). onSpot x (λ q. q) f) (sym g ∙ e)
 
-  pub name-missing : s ≡ Nowhere → f ≡ onSpot (asText t (m .name)) (λ q. q) f
+  pub name-missing : s ≡ Nowhere → f ≡ onSpot (asText t name) (λ q. q) f
   name-missing g = ap (λ (x : Spot). onSpot x (λ q. q) f) (sym g ∙ e)
 
 -- ---- 13
@@ -221,11 +225,11 @@ module _ (t : List ℕ) where
       ap (λ (l : List (List ℕ)). cond (isObject (shapeAt t q)) (takenBy t q) [] ++ l) (taken-append qs ps)
       ∙ sym (append-assoc (cond (isObject (shapeAt t q)) (takenBy t q) []) (takenAmong t qs) (takenAmong t ps))
 
-  taken-snoc : (qs : List ℕ) (q : ℕ) → takenAmong t (qs ++ (q ∷ [])) ≡ takenAmong t qs ++ cond (isObject (shapeAt t q)) (takenBy t q) []
+  pub taken-snoc : (qs : List ℕ) (q : ℕ) → takenAmong t (qs ++ (q ∷ [])) ≡ takenAmong t qs ++ cond (isObject (shapeAt t q)) (takenBy t q) []
   unfolding takenAmong
   taken-snoc qs q = taken-append qs (q ∷ []) ∙ ap (λ (l : List (List ℕ)). takenAmong t qs ++ l) (append-nil (cond (isObject (shapeAt t q)) (takenBy t q) []))
 
-  fields-stop : (qs : List ℕ) → fieldsLeft t qs [] ≡ Fine
+  pub fields-stop : (qs : List ℕ) → fieldsLeft t qs [] ≡ Fine
   unfolding fieldNamesCheck objectsAmong
   fields-stop qs = refl
 
@@ -237,31 +241,16 @@ module _ (t : List ℕ) where
   by-object qs q ps true = refl
   by-object qs q ps false = ap (λ (l : List (List ℕ)). fieldNamesCheck t l (objectsAmong t ps)) (sym (append-nil (takenAmong t qs)))
 
-  fields-step : (qs : List ℕ) (q : ℕ) (ps : List ℕ) → fieldsLeft t qs (q ∷ ps) ≡ (fieldAfter t qs q then fieldsLeft t (qs ++ (q ∷ [])) ps)
+  pub fields-step : (qs : List ℕ) (q : ℕ) (ps : List ℕ) → fieldsLeft t qs (q ∷ ps) ≡ (fieldAfter t qs q then fieldsLeft t (qs ++ (q ∷ [])) ps)
   unfolding objectsAmong
   fields-step qs q ps =
       by-object qs q ps (isObject (shapeAt t q))
       ∙ ap (λ (l : List (List ℕ)). fieldAfter t qs q then fieldNamesCheck t l (objectsAmong t ps)) (sym (taken-snoc qs q))
 
-  pub fields-start : (p : ℕ) {s : Spot} → s ≡ firstElement t p → Going t p s (fieldsLeft t) (fieldNamesCheck t [] (fieldsIn t p))
-  unfolding fieldsIn takenAmong
-  fields-start p e = record { past = []; passed = passed-start t p e; rest = ap (λ (l : List ℕ). fieldNamesCheck t [] (objectsAmong t l)) (left-start t p e) }
-
-  module _ {p : ℕ} {s : Spot} {x : Check} (inv : Going t p s (fieldsLeft t) x) where
-    pub fields-done : s ≡ Nowhere → Fine ≡ x
-    fields-done e = going-done (fieldsLeft t) inv fields-stop e
-
-    module _ {q : ℕ} (e : s ≡ At q) {r : Check} (f : r ≡ fieldAfter t (before q (elements t p)) q) where
-      pub fields-bad : {y : Fault} → r ≡ Bad y → Bad y ≡ x
-      fields-bad g = going-bad (fieldsLeft t) inv (fieldAfter t) fields-step e f g
-
-      pub fields-on : r ≡ Fine → {s′ : Spot} → s′ ≡ nextElement t q → Going t p s′ (fieldsLeft t) x
-      fields-on g h = going-on (fieldsLeft t) inv (fieldAfter t) fields-step e f g h
-
   module _ (p q : ℕ) {b : Bool} (e : b ≡ isObject (shapeAt t q)) where
     pub field-skipped : b ≡ false → Fine ≡ fieldAfter t (before q (elements t p)) q
     field-skipped f = rw (← e, f)
 
-    pub field-new : b ≡ true → {m : Members} → m ≡ membersOf t q → {n : ℕ} → n ≡ onSpot (asText t (m .name)) (λ p. p) q → {c : Bool} → c ≡ isOneOf (takenAmong t (before q (elements t p))) (stringAt t n)
+    pub field-new : b ≡ true → {m : Titles} → m ≡ titlesOf t q → {n : ℕ} → n ≡ onSpot (asText t (m .name)) (λ p. p) q → {c : Bool} → c ≡ isOneOf (takenAmong t (before q (elements t p))) (stringAt t n)
         → {r : Check} → r ≡ must (not c) (fault FieldNameTaken n) → r ≡ fieldAfter t (before q (elements t p)) q
     field-new f d g h i = rw (← e, f, ← name-of t q d g, ← h) i

@@ -8,6 +8,8 @@ use Rattle.name.specs.Name.{isOneOf}
 use Rattle.view.specs.Values.{shapeAt}
 use Rattle.view.specs.Strings.{stringAt}
 use Rattle.view.specs.Members.{membersOf}
+use Rattle.view.specs.Marks.{markOf}
+use Rattle.seen.specs.Seen.{entered}
 use Rattle.form.specs.declared.check.Check.{Check}
 use Rattle.form.specs.declared.check.Check.the-variants.{Fine}
 use Rattle.form.specs.Checks.{fault, must, _then_}
@@ -37,3 +39,8 @@ fieldNamesCheck t taken (f ∷ fs) =
 unfoldable pub takenAmong : List ℕ → List ℕ → List (List ℕ)
 takenAmong t [] = []
 takenAmong t (p ∷ ps) = cond (isObject (shapeAt t p)) (takenBy t p) [] ++ takenAmong t ps
+
+-- a table of marks with some strings entered
+unfoldable pub enteredAll : List ℕ → List (List ℕ) → List ℕ
+enteredAll table [] = table
+enteredAll table (s ∷ ss) = enteredAll (entered table (markOf s)) ss

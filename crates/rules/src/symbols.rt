@@ -5,8 +5,12 @@ use form::Check;
 use form::is_text;
 use form::must;
 use form::simple_check;
+use seen::enter;
+use seen::forget;
+use seen::is_marked;
 use view::Spot;
 use view::first_element;
+use view::mark;
 use view::next_element;
 use view::strings_same;
 ghost use mathlib.Core.Path.{_≡_};
@@ -19,14 +23,18 @@ ghost use Rattle.name.specs.Name.{isOneOf};
 ghost use Rattle.view.specs.Values.{shapeAt};
 ghost use Rattle.view.specs.Strings.{stringAt};
 ghost use Rattle.view.specs.Elements.{elements};
+ghost use Rattle.view.specs.Known.{Known};
+ghost use Rattle.view.specs.Marks.{markOf};
+ghost use Rattle.seen.specs.Seen.{entered, Holds};
 ghost use Rattle.form.specs.Checks.{fault, must, _then_, eachOf};
 ghost use Rattle.form.specs.Spots.{isText};
 ghost use Rattle.form.specs.Names.{simpleCheck};
 ghost use Rattle.rules.specs.Unions.{before};
-ghost use Rattle.rules.specs.Symbols.{symbolsNew, symbolsCheck, defaultCheck};
+ghost use Rattle.rules.specs.Symbols.{symbolsNew, symbolsCheck, defaultCheck, allNew};
 
 // 13: the first element that is no string.
-fn all_strings(text: &[u8], array: usize) -> Check
+fn all_strings(text: &[u8], ends: &[u16], array: usize) -> Check
+    requires { ⌜ Known (now text) (now ends) ⌝ }
     ensures { λ r. ⌜ r ≡ eachOf (λ q. must (isText (shapeAt (now (text .entry)) q)) (fault SymbolNotAString q)) (elements (now (text .entry)) array) ⌝ }
 {
     let mut spot = first_element(text, array);
@@ -40,12 +48,13 @@ fn all_strings(text: &[u8], array: usize) -> Check
                 at: p,
             });
         }
-        spot = next_element(text, p);
+        spot = next_element(text, ends, p);
     }
 }
 
 // Is the string at `at` one of the array's strings that stand before a place?
-fn is_among(text: &[u8], array: usize, place: usize, at: usize) -> bool
+fn is_among(text: &[u8], ends: &[u16], array: usize, place: usize, at: usize) -> bool
+    requires { ⌜ Known (now text) (now ends) ⌝ }
     ensures { λ r. ⌜ r ≡ isOneOf (map (stringAt (now (text .entry))) (before place (elements (now (text .entry)) array))) (stringAt (now (text .entry)) at) ⌝ }
 {
     let mut spot = first_element(text, array);
@@ -56,26 +65,27 @@ fn is_among(text: &[u8], array: usize, place: usize, at: usize) -> bool
         if p == place {
             return false;
         }
-        if strings_same(text, at, p) {
+        if strings_same(text, ends, at, p) {
             return true;
         }
-        spot = next_element(text, p);
+        spot = next_element(text, ends, p);
     }
 }
 
 // A symbol: 7, 9, 14.
-fn symbol(text: &[u8], array: usize, at: usize, word: &mut [u8; 32768]) -> Check
-    requires { ⌜ length (now text) ≤ 32768 ⌝ }
+fn symbol(text: &[u8], ends: &[u16], array: usize, at: usize, word: &mut [u8; 32768]) -> Check
+    requires { ⌜ (length (now text) ≤ 32768) × Known (now text) (now ends) ⌝ }
     ensures { λ r. ⌜ r ≡ simpleCheck (now (text .entry)) at then must (not (isOneOf (map (stringAt (now (text .entry))) (before at (elements (now (text .entry)) array))) (stringAt (now (text .entry)) at))) (fault SymbolTwice at) ⌝ }
 {
-    match simple_check(text, at, word) {
+    match simple_check(text, ends, at, word) {
         Check::Bad(f) => Check::Bad(f),
-        Check::Fine => must(!is_among(text, array, at, at), Why::SymbolTwice, at),
+        Check::Fine => must(!is_among(text, ends, array, at, at), Why::SymbolTwice, at),
     }
 }
 
-fn each_symbol(text: &[u8], array: usize, word: &mut [u8; 32768]) -> Check
-    requires { ⌜ length (now text) ≤ 32768 ⌝ }
+// 7, 9, 14 for each, by the symbols before it.
+fn each_symbol(text: &[u8], ends: &[u16], array: usize, word: &mut [u8; 32768]) -> Check
+    requires { ⌜ (length (now text) ≤ 32768) × Known (now text) (now ends) ⌝ }
     ensures { λ r. ⌜ r ≡ symbolsNew (now (text .entry)) [] (elements (now (text .entry)) array) ⌝ }
 {
     let mut spot = first_element(text, array);
@@ -83,26 +93,87 @@ fn each_symbol(text: &[u8], array: usize, word: &mut [u8; 32768]) -> Check
         let Spot::At(p) = spot else {
             return Check::Fine;
         };
-        if let Check::Bad(f) = symbol(text, array, p, word) {
+        if let Check::Bad(f) = symbol(text, ends, array, p, word) {
             return Check::Bad(f);
         }
-        spot = next_element(text, p);
+        spot = next_element(text, ends, p);
     }
 }
 
+// Enters the string at `at`. Is it one of the array's strings that stand before it, which are entered?
+fn enter_symbol(text: &[u8], ends: &[u16], array: usize, at: usize, word: &mut [u8; 32768]) -> bool
+    requires { ⌜ Known (now text) (now ends) × Holds (now word) (map (stringAt (now text)) (before at (elements (now text) array))) ⌝ }
+    ensures { λ r. ⌜ (r ≡ isOneOf (map (stringAt (now (text .entry))) (before at (elements (now (text .entry)) array))) (stringAt (now (text .entry)) at)) × (now (word .exit) ≡ entered (now (word .entry)) (markOf (stringAt (now (text .entry)) at))) ⌝ }
+{
+    let own = mark(text, ends, at);
+    let was = is_marked(word, own);
+    enter(word, own);
+    if was {
+        return is_among(text, ends, array, at, at);
+    }
+    false
+}
+
+// Is no string of the array one of those before it?
+fn all_new(text: &[u8], ends: &[u16], array: usize, word: &mut [u8; 32768]) -> bool
+    requires { ⌜ Known (now text) (now ends) ⌝ }
+    ensures { λ r. ⌜ r ≡ allNew (now (text .entry)) [] (elements (now (text .entry)) array) ⌝ }
+{
+    forget(word);
+    let mut spot = first_element(text, array);
+    loop {
+        let Spot::At(p) = spot else {
+            return true;
+        };
+        if enter_symbol(text, ends, array, p, word) {
+            return false;
+        }
+        spot = next_element(text, ends, p);
+    }
+}
+
+// 7 and 9 for each: where all are new there is no 14.
+fn each_simple(text: &[u8], ends: &[u16], array: usize, word: &mut [u8; 32768]) -> Check
+    requires { ⌜ (length (now text) ≤ 32768) × Known (now text) (now ends) ⌝ }
+    ensures { λ r. ⌜ r ≡ eachOf (simpleCheck (now (text .entry))) (elements (now (text .entry)) array) ⌝ }
+{
+    let mut spot = first_element(text, array);
+    loop {
+        let Spot::At(p) = spot else {
+            return Check::Fine;
+        };
+        if let Check::Bad(f) = simple_check(text, ends, p, word) {
+            return Check::Bad(f);
+        }
+        spot = next_element(text, ends, p);
+    }
+}
+
+// 7, 9, 14 for each.
+fn each_new(text: &[u8], ends: &[u16], array: usize, word: &mut [u8; 32768]) -> Check
+    requires { ⌜ (length (now text) ≤ 32768) × Known (now text) (now ends) ⌝ }
+    ensures { λ r. ⌜ r ≡ symbolsNew (now (text .entry)) [] (elements (now (text .entry)) array) ⌝ }
+{
+    if all_new(text, ends, array, word) {
+        return each_simple(text, ends, array, word);
+    }
+    each_symbol(text, ends, array, word)
+}
+
 // The `symbols` at a place: 13 for all, then 7, 9, 14 for each.
-pub fn symbols_check(text: &[u8], array: usize, word: &mut [u8; 32768]) -> Check
-    requires { ⌜ length (now text) ≤ 32768 ⌝ }
+pub fn symbols_check(text: &[u8], ends: &[u16], array: usize, word: &mut [u8; 32768]) -> Check
+    requires { ⌜ (length (now text) ≤ 32768) × Known (now text) (now ends) ⌝ }
     ensures { λ r. ⌜ r ≡ symbolsCheck (now (text .entry)) (elements (now (text .entry)) array) ⌝ }
 {
-    match all_strings(text, array) {
+    match all_strings(text, ends, array) {
         Check::Bad(f) => Check::Bad(f),
-        Check::Fine => each_symbol(text, array, word),
+        Check::Fine => each_new(text, ends, array, word),
     }
 }
 
 // The `default` of the enum with the `symbols` at a place: 15, 16. All symbols stand before the text's end.
-pub fn default_check(text: &[u8], spot: Spot, array: usize) -> Check
+pub fn default_check(text: &[u8], ends: &[u16], spot: Spot, array: usize) -> Check
+    requires { ⌜ Known (now text) (now ends) ⌝ }
     ensures { λ r. ⌜ r ≡ defaultCheck (now (text .entry)) spot (elements (now (text .entry)) array) ⌝ }
 {
     let Spot::At(p) = spot else {
@@ -115,7 +186,7 @@ pub fn default_check(text: &[u8], spot: Spot, array: usize) -> Check
         });
     }
     must(
-        is_among(text, array, text.len(), p),
+        is_among(text, ends, array, text.len(), p),
         Why::DefaultNotASymbol,
         p,
     )

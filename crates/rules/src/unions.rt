@@ -24,6 +24,7 @@ ghost use lib.ListN.{length};
 ghost use Rattle.ground.specs.Bytes.{same};
 ghost use Rattle.view.specs.Elements.{elements};
 ghost use Rattle.view.specs.Strings.{stringAt};
+ghost use Rattle.view.specs.Known.{Known};
 ghost use Rattle.form.specs.Names.{fullAt};
 ghost use Rattle.form.specs.Forms.{formOf, wordKind};
 ghost use Rattle.rules.specs.Unions.{unnamed, called, clash, wordHead, definitionHead, headOf, headNumber, before, isNew, unionCheck};
@@ -31,10 +32,11 @@ ghost use Rattle.rules.specs.Unions.{unnamed, called, clash, wordHead, d
 // ---- schemas that are told apart by their kind
 
 // The number of the kind that a string names, 0 where it is a reference.
-fn word_number(text: &[u8], at: usize) -> u8
+fn word_number(text: &[u8], ends: &[u16], at: usize) -> u8
+    requires { ⌜ Known (now text) (now ends) ⌝ }
     ensures { λ r. ⌜ ((namespace : List ℕ) → r ≡ headNumber (wordHead (now (text .entry)) namespace at (wordKind (stringAt (now (text .entry)) at)))) ⌝ }
 {
-    let number = word_kind(text, at).number();
+    let number = word_kind(text, ends, at).number();
     if number == Kind::Reference.number() {
         return 0;
     }
@@ -42,13 +44,14 @@ fn word_number(text: &[u8], at: usize) -> u8
 }
 
 // The number of an unnamed schema's kind, 0 where the schema is told by its full name.
-fn head_number(text: &[u8], at: usize) -> u8
+fn head_number(text: &[u8], ends: &[u16], at: usize) -> u8
+    requires { ⌜ Known (now text) (now ends) ⌝ }
     ensures { λ r. ⌜ ((namespace : List ℕ) → r ≡ headNumber (headOf (now (text .entry)) namespace (formOf (now (text .entry)) at))) ⌝ }
 {
-    let found = find(text, at);
+    let found = find(text, ends, at);
     let form = found.form;
     match form {
-        Form::Word(p, _) => word_number(text, p),
+        Form::Word(p, _) => word_number(text, ends, p),
         Form::ArrayOf(_) => Kind::Array.number(),
         Form::MapOf(_) => Kind::Map.number(),
         Form::UnionOf(_) => Kind::Union.number(),
@@ -60,7 +63,8 @@ fn head_number(text: &[u8], at: usize) -> u8
 }
 
 // Is no member of the union that stands before `member` of this kind?
-fn is_new_kind(text: &[u8], array: usize, member: usize, kind: Kind) -> bool
+fn is_new_kind(text: &[u8], ends: &[u16], array: usize, member: usize, kind: Kind) -> bool
+    requires { ⌜ Known (now text) (now ends) ⌝ }
     ensures { λ r. ⌜ ((namespace : List ℕ) → r ≡ isNew (now (text .entry)) namespace (unnamed kind) (before member (elements (now (text .entry)) array))) ⌝ }
 {
     let number = kind.number();
@@ -72,15 +76,16 @@ fn is_new_kind(text: &[u8], array: usize, member: usize, kind: Kind) -> bool
         if p == member {
             return true;
         }
-        if head_number(text, p) == number {
+        if head_number(text, ends, p) == number {
             return false;
         }
-        spot = next_element(text, p);
+        spot = next_element(text, ends, p);
     }
 }
 
 // 19, for a schema of an unnamed kind, in whatever namespace.
-pub fn new_kind(text: &[u8], standing: Standing, kind: Kind) -> Check
+pub fn new_kind(text: &[u8], ends: &[u16], standing: Standing, kind: Kind) -> Check
+    requires { ⌜ Known (now text) (now ends) ⌝ }
     ensures { λ r. ⌜ ((namespace : List ℕ) → r ≡ unionCheck (now (text .entry)) namespace standing (unnamed kind)) ⌝ }
 {
     let Standing::MemberOf(array, member) = standing else {
@@ -93,7 +98,7 @@ pub fn new_kind(text: &[u8], standing: Standing, kind: Kind) -> Check
         });
     }
     must(
-        is_new_kind(text, array, member, kind),
+        is_new_kind(text, ends, array, member, kind),
         Why::UnionRuleBroken,
         member,
     )
@@ -104,16 +109,17 @@ pub fn new_kind(text: &[u8], standing: Standing, kind: Kind) -> Check
 // Is this the full name of what is written at `at`, in a namespace?
 fn is_named(
     text: &[u8],
+    ends: &[u16],
     namespace: &[u8],
     at: usize,
     name: &[u8],
     word: &mut [u8; 32768],
     other: &mut [u8; 255],
 ) -> bool
-    requires { ⌜ (length (now text) ≤ 32768) × (length (now name) ≤ 255) ⌝ }
+    requires { ⌜ (length (now text) ≤ 32768) × (length (now name) ≤ 255) × Known (now text) (now ends) ⌝ }
     ensures { λ r. ⌜ r ≡ same (fullAt (now (text .entry)) (now (namespace .entry)) at) (now (name .entry)) ⌝ }
 {
-    let n = string_copy(text, at, word);
+    let n = string_copy(text, ends, at, word);
     let all = &word[..];
     let Full::Fits(k) = full_name(namespace, &all[0..n], other) else {
         return false;
@@ -122,20 +128,49 @@ fn is_named(
     same(&whole[0..k], name)
 }
 
+// Is this the full name of what is written at `at`, in the namespace at `space`? Of a name at most a dot is dropped: one
+// of more than 256 bytes has no full name of 255.
+fn is_named_in(
+    text: &[u8],
+    ends: &[u16],
+    space: usize,
+    at: usize,
+    name: &[u8],
+    word: &mut [u8; 32768],
+    other: &mut [u8; 255],
+) -> bool
+    requires { ⌜ (length (now text) ≤ 32768) × (length (now name) ≤ 255) × Known (now text) (now ends) ⌝ }
+    ensures { λ r. ⌜ r ≡ same (fullAt (now (text .entry)) (stringAt (now (text .entry)) space) at) (now (name .entry)) ⌝ }
+{
+    let mut own: [u8; 256] = [0; 256];
+    let n = string_copy(text, ends, at, &mut own);
+    if 256 < n {
+        return false;
+    }
+    let k = string_copy(text, ends, space, word);
+    let all = &word[..];
+    let Full::Fits(l) = full_name(&all[0..k], &own[0..n], other) else {
+        return false;
+    };
+    let whole = &other[..];
+    same(&whole[0..l], name)
+}
+
 // Is a string a reference to this full name?
 fn is_reference(
     text: &[u8],
+    ends: &[u16],
     namespace: &[u8],
     at: usize,
     name: &[u8],
     word: &mut [u8; 32768],
     other: &mut [u8; 255],
 ) -> bool
-    requires { ⌜ (length (now text) ≤ 32768) × (length (now name) ≤ 255) ⌝ }
+    requires { ⌜ (length (now text) ≤ 32768) × (length (now name) ≤ 255) × Known (now text) (now ends) ⌝ }
     ensures { λ r. ⌜ r ≡ clash (wordHead (now (text .entry)) (now (namespace .entry)) at (wordKind (stringAt (now (text .entry)) at))) (called (now (name .entry))) ⌝ }
 {
-    if word_kind(text, at).number() == Kind::Reference.number() {
-        return is_named(text, namespace, at, name, word, other);
+    if word_kind(text, ends, at).number() == Kind::Reference.number() {
+        return is_named(text, ends, namespace, at, name, word, other);
     }
     false
 }
@@ -143,14 +178,14 @@ fn is_reference(
 // Has the definition with these members this full name?
 fn is_definition(
     text: &[u8],
+    ends: &[u16],
     enclosing: &[u8],
     members: Members,
     name: &[u8],
     word: &mut [u8; 32768],
-    space: &mut [u8; 32768],
     other: &mut [u8; 255],
 ) -> bool
-    requires { ⌜ (length (now text) ≤ 32768) × (length (now name) ≤ 255) ⌝ }
+    requires { ⌜ (length (now text) ≤ 32768) × (length (now name) ≤ 255) × Known (now text) (now ends) ⌝ }
     ensures { λ r. ⌜ r ≡ clash (definitionHead (now (text .entry)) (now (enclosing .entry)) members) (called (now (name .entry))) ⌝ }
 {
     let own = members.name;
@@ -159,37 +194,35 @@ fn is_definition(
     };
     let namespace = members.namespace;
     let Spot::At(q) = as_text(text, namespace) else {
-        return is_named(text, enclosing, p, name, word, other);
+        return is_named(text, ends, enclosing, p, name, word, other);
     };
-    let k = string_copy(text, q, space);
-    let all = &space[..];
-    is_named(text, &all[0..k], p, name, word, other)
+    is_named_in(text, ends, q, p, name, word, other)
 }
 
 // Has the schema at a place this full name?
 fn is_head(
     text: &[u8],
+    ends: &[u16],
     namespace: &[u8],
     at: usize,
     name: &[u8],
     word: &mut [u8; 32768],
-    space: &mut [u8; 32768],
     other: &mut [u8; 255],
 ) -> bool
-    requires { ⌜ (length (now text) ≤ 32768) × (length (now name) ≤ 255) ⌝ }
+    requires { ⌜ (length (now text) ≤ 32768) × (length (now name) ≤ 255) × Known (now text) (now ends) ⌝ }
     ensures { λ r. ⌜ r ≡ clash (headOf (now (text .entry)) (now (namespace .entry)) (formOf (now (text .entry)) at)) (called (now (name .entry))) ⌝ }
 {
-    let found = find(text, at);
+    let found = find(text, ends, at);
     let form = found.form;
     let members = found.members;
     match form {
-        Form::Word(p, _) => is_reference(text, namespace, p, name, word, other),
+        Form::Word(p, _) => is_reference(text, ends, namespace, p, name, word, other),
         Form::ArrayOf(_) => false,
         Form::MapOf(_) => false,
         Form::UnionOf(_) => false,
-        Form::RecordOf(_) => is_definition(text, namespace, members, name, word, space, other),
-        Form::EnumOf(_) => is_definition(text, namespace, members, name, word, space, other),
-        Form::FixedOf(_) => is_definition(text, namespace, members, name, word, space, other),
+        Form::RecordOf(_) => is_definition(text, ends, namespace, members, name, word, other),
+        Form::EnumOf(_) => is_definition(text, ends, namespace, members, name, word, other),
+        Form::FixedOf(_) => is_definition(text, ends, namespace, members, name, word, other),
         Form::Wrong(_) => name.len() == 0,
     }
 }
@@ -197,14 +230,14 @@ fn is_head(
 // Has no member of the union that stands before `member` this full name?
 fn is_new_name(
     text: &[u8],
+    ends: &[u16],
     namespace: &[u8],
     array: usize,
     member: usize,
     name: &[u8],
     word: &mut [u8; 32768],
-    space: &mut [u8; 32768],
 ) -> bool
-    requires { ⌜ (length (now text) ≤ 32768) × (length (now name) ≤ 255) ⌝ }
+    requires { ⌜ (length (now text) ≤ 32768) × (length (now name) ≤ 255) × Known (now text) (now ends) ⌝ }
     ensures { λ r. ⌜ r ≡ isNew (now (text .entry)) (now (namespace .entry)) (called (now (name .entry))) (before member (elements (now (text .entry)) array)) ⌝ }
 {
     let mut other: [u8; 255] = [0; 255];
@@ -216,30 +249,30 @@ fn is_new_name(
         if p == member {
             return true;
         }
-        if is_head(text, namespace, p, name, word, space, &mut other) {
+        if is_head(text, ends, namespace, p, name, word, &mut other) {
             return false;
         }
-        spot = next_element(text, p);
+        spot = next_element(text, ends, p);
     }
 }
 
 // 19, for a schema with a full name, in a namespace.
 pub fn new_name(
     text: &[u8],
+    ends: &[u16],
     namespace: &[u8],
     standing: Standing,
     name: &[u8],
     word: &mut [u8; 32768],
-    space: &mut [u8; 32768],
 ) -> Check
-    requires { ⌜ (length (now text) ≤ 32768) × (length (now name) ≤ 255) ⌝ }
+    requires { ⌜ (length (now text) ≤ 32768) × (length (now name) ≤ 255) × Known (now text) (now ends) ⌝ }
     ensures { λ r. ⌜ r ≡ unionCheck (now (text .entry)) (now (namespace .entry)) standing (called (now (name .entry))) ⌝ }
 {
     let Standing::MemberOf(array, member) = standing else {
         return Check::Fine;
     };
     must(
-        is_new_name(text, namespace, array, member, name, word, space),
+        is_new_name(text, ends, namespace, array, member, name, word),
         Why::UnionRuleBroken,
         member,
     )

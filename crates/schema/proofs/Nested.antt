@@ -263,11 +263,13 @@ module _ (t : List ℕ) {r : Scan} (e : r ≡ scanned t) {m m′ : List ℕ} {c 
   unfolding declared
   declared-not {f} g = rw (← e, g) (did-bad m m′ c f)
 
-  pub declared-rows : {p : ℕ} {n : Counts} {w : Walked} {x : List ℕ} → r ≡ Whole → x ≡ m → p ≡ valueStart t → n ≡ c
-      → Did x n m′ w (schemaOf 65 t (within []) 0 p) → Did m c m′ w (declared t)
-  unfolding declared rowsOf
-  declared-rows {p} {n} {w} {x} g h i j k =
-      rw (← e, g)
-      (subst (λ (y : List ℕ). Did y c m′ w (schemaOf 65 t (within []) 0 (valueStart t))) h
-      (subst (λ (y : Counts). Did x y m′ w (schemaOf 65 t (within []) 0 (valueStart t))) j
-      (subst (λ (y : ℕ). Did x n m′ w (schemaOf 65 t (within []) 0 y)) i k)))
+  pub declared-rows : r ≡ Whole → {w : Walked} → Did m c m′ w (rowsOf t) → Did m c m′ w (declared t)
+  unfolding declared
+  declared-rows g k = rw (← e, g) k
+
+pub rows-walked : (t : List ℕ) {m m′ : List ℕ} {c n : Counts} {p : ℕ} {w : Walked} → p ≡ valueStart t → n ≡ c
+    → Did m n m′ w (schemaOf 65 t (within []) 0 p) → Did m c m′ w (rowsOf t)
+unfolding rowsOf
+rows-walked t {m} {m′} {c} {n} {p} {w} i j k =
+    subst (λ (y : Counts). Did m y m′ w (schemaOf 65 t (within []) 0 (valueStart t))) j
+    (subst (λ (y : ℕ). Did m n m′ w (schemaOf 65 t (within []) 0 y)) i k)

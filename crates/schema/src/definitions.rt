@@ -31,10 +31,12 @@ ghost use Prim.Native.Nat.{_+_, _≤_, _<_};
 ghost use lib.ListN.{length};
 ghost use Rattle.schema.specs.Schema.{enumRows, fixedRows};
 ghost use Rattle.schema.specs.Did.{Did, Titled, around, headed, headRows, nameIn, symbolsRows};
+ghost use Rattle.view.specs.Known.{Known};
 
 // 19, the row with the full name, the aliases, which see the full name's namespace.
 fn put_definition(
     text: &[u8],
+    ends: &[u16],
     namespace: &[u8],
     standing: Standing,
     row: Entry,
@@ -43,19 +45,19 @@ fn put_definition(
     draft: &mut [u8],
     counts: Counts,
     word: &mut [u8; 32768],
-    space: &mut [u8; 32768],
 ) -> Walked
-    requires { ⌜ (length (now text) ≤ 32768) × (length (now full) ≤ 255) × (row .depth < 65535) ⌝ }
+    requires { ⌜ (length (now text) ≤ 32768) × (length (now full) ≤ 255) × (row .depth < 65535) × Known (now text) (now ends) ⌝ }
     ensures { λ r. ⌜ Did (now (draft .entry)) counts (now (draft .exit)) r (headed (now (text .entry)) (around (now (namespace .entry)) standing) row (now (full .entry)) aliases) ⌝ }
 {
-    match new_name(text, namespace, standing, full, word, space) {
+    match new_name(text, ends, namespace, standing, full, word) {
         Check::Bad(f) => Walked::Bad(f),
         Check::Fine => {
             let depth = row.depth;
             let next = push(draft, counts, row, full);
-            let first = first_alias(text, aliases);
+            let first = first_alias(text, ends, aliases);
             put_aliases(
                 text,
+                ends,
                 namespace_part(full),
                 depth + 1,
                 first,
@@ -70,9 +72,9 @@ fn put_definition(
 // The definition at `at` with these members, up to its aliases.
 pub(crate) fn define(
     text: &[u8],
+    ends: &[u16],
     namespace: &[u8],
     word: &mut [u8; 32768],
-    space: &mut [u8; 32768],
     full: &mut [u8; 255],
     draft: &mut [u8],
     counts: Counts,
@@ -84,7 +86,7 @@ pub(crate) fn define(
     size: u64,
     note: Note,
 ) -> Defined
-    requires { ⌜ (length (now text) ≤ 32768) × (depth < 65535) ⌝ }
+    requires { ⌜ (length (now text) ≤ 32768) × (depth < 65535) × Known (now text) (now ends) ⌝ }
     ensures { λ r. ⌜ Titled (now (draft .entry)) counts (now (draft .exit)) r (now (full .exit)) (nameIn (now (text .entry)) (now (namespace .entry)) members) (headRows (now (text .entry)) (around (now (namespace .entry)) standing) kind depth at members size note) ⌝ }
 {
     let name = members.name;
@@ -94,7 +96,7 @@ pub(crate) fn define(
             at,
         });
     };
-    match definition(text, namespace, members, q, word, space, full) {
+    match definition(text, ends, namespace, members, q, word, full) {
         Named::Wrong(f) => Defined::Bad(f),
         Named::Kept(n) => {
             let row = entry(kind, depth, q, size, note);
@@ -102,6 +104,7 @@ pub(crate) fn define(
             let all = &full[..];
             match put_definition(
                 text,
+                ends,
                 namespace,
                 standing,
                 row,
@@ -110,7 +113,6 @@ pub(crate) fn define(
                 draft,
                 counts,
                 word,
-                space,
             ) {
                 Walked::Bad(f) => Defined::Bad(f),
                 Walked::Read(next) => Defined::As(n, next),
@@ -124,6 +126,7 @@ pub(crate) fn define(
 // The symbols of the enum at `at` with these members.
 fn put_checked_symbols(
     text: &[u8],
+    ends: &[u16],
     depth: u16,
     at: usize,
     members: Members,
@@ -131,7 +134,7 @@ fn put_checked_symbols(
     counts: Counts,
     word: &mut [u8; 32768],
 ) -> Walked
-    requires { ⌜ length (now text) ≤ 32768 ⌝ }
+    requires { ⌜ (length (now text) ≤ 32768) × Known (now text) (now ends) ⌝ }
     ensures { λ r. ⌜ Did (now (draft .entry)) counts (now (draft .exit)) r (symbolsRows (now (text .entry)) depth at members) ⌝ }
 {
     let symbols = members.symbols;
@@ -141,18 +144,19 @@ fn put_checked_symbols(
             at,
         });
     };
-    if let Check::Bad(f) = symbols_check(text, v, word) {
+    if let Check::Bad(f) = symbols_check(text, ends, v, word) {
         return Walked::Bad(f);
     }
     let default = members.default;
-    if let Check::Bad(f) = default_check(text, default, v) {
+    if let Check::Bad(f) = default_check(text, ends, default, v) {
         return Walked::Bad(f);
     }
-    put_symbols(text, depth, v, draft, counts, word)
+    put_symbols(text, ends, depth, v, draft, counts, word)
 }
 
 pub(crate) fn put_enum(
     text: &[u8],
+    ends: &[u16],
     namespace: &[u8],
     standing: Standing,
     depth: u16,
@@ -161,9 +165,8 @@ pub(crate) fn put_enum(
     draft: &mut [u8],
     counts: Counts,
     word: &mut [u8; 32768],
-    space: &mut [u8; 32768],
 ) -> Walked
-    requires { ⌜ (length (now text) ≤ 32768) × (depth < 65535) ⌝ }
+    requires { ⌜ (length (now text) ≤ 32768) × (depth < 65535) × Known (now text) (now ends) ⌝ }
     ensures { λ r. ⌜ Did (now (draft .entry)) counts (now (draft .exit)) r (enumRows (now (text .entry)) (around (now (namespace .entry)) standing) depth at members) ⌝ }
 {
     let mut full: [u8; 255] = [0; 255];
@@ -174,9 +177,9 @@ pub(crate) fn put_enum(
     };
     match define(
         text,
+        ends,
         namespace,
         word,
-        space,
         &mut full,
         draft,
         counts,
@@ -190,7 +193,7 @@ pub(crate) fn put_enum(
     ) {
         Defined::Bad(f) => Walked::Bad(f),
         Defined::As(_, next) => {
-            put_checked_symbols(text, depth + 1, at, members, draft, next, word)
+            put_checked_symbols(text, ends, depth + 1, at, members, draft, next, word)
         }
     }
 }
@@ -199,6 +202,7 @@ pub(crate) fn put_enum(
 
 pub(crate) fn put_fixed(
     text: &[u8],
+    ends: &[u16],
     namespace: &[u8],
     standing: Standing,
     depth: u16,
@@ -207,9 +211,8 @@ pub(crate) fn put_fixed(
     draft: &mut [u8],
     counts: Counts,
     word: &mut [u8; 32768],
-    space: &mut [u8; 32768],
 ) -> Walked
-    requires { ⌜ (length (now text) ≤ 32768) × (depth < 65535) ⌝ }
+    requires { ⌜ (length (now text) ≤ 32768) × (depth < 65535) × Known (now text) (now ends) ⌝ }
     ensures { λ r. ⌜ Did (now (draft .entry)) counts (now (draft .exit)) r (fixedRows (now (text .entry)) (around (now (namespace .entry)) standing) depth at members) ⌝ }
 {
     let spot = members.size;
@@ -226,12 +229,12 @@ pub(crate) fn put_fixed(
         }),
         Size::Value(size) => {
             let mut full: [u8; 255] = [0; 255];
-            let note = decimal_note(text, members);
+            let note = decimal_note(text, ends, members);
             match define(
                 text,
+                ends,
                 namespace,
                 word,
-                space,
                 &mut full,
                 draft,
                 counts,

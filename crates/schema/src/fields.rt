@@ -20,10 +20,12 @@ ghost use Rattle.rules.specs.Fields.{fieldNamesCheck};
 ghost use Rattle.form.specs.Spots.{fieldsIn};
 ghost use Rattle.schema.specs.Out.{read, after};
 ghost use Rattle.schema.specs.Did.{Did, fieldHead};
+ghost use Rattle.view.specs.Known.{Known};
 
 // The field at `at` with these members: its name, its row, its aliases.
 pub(crate) fn put_field_head(
     text: &[u8],
+    ends: &[u16],
     depth: u16,
     at: usize,
     members: Members,
@@ -31,7 +33,7 @@ pub(crate) fn put_field_head(
     counts: Counts,
     word: &mut [u8; 32768],
 ) -> Walked
-    requires { ⌜ (length (now text) ≤ 32768) × (depth < 65535) ⌝ }
+    requires { ⌜ (length (now text) ≤ 32768) × (depth < 65535) × Known (now text) (now ends) ⌝ }
     ensures { λ r. ⌜ Did (now (draft .entry)) counts (now (draft .exit)) r (fieldHead (now (text .entry)) depth at members) ⌝ }
 {
     let name = members.name;
@@ -41,20 +43,27 @@ pub(crate) fn put_field_head(
             at,
         });
     };
-    if let Check::Bad(f) = simple_check(text, q, word) {
+    if let Check::Bad(f) = simple_check(text, ends, q, word) {
         return Walked::Bad(f);
     }
-    let next = put_string(text, Kind::Field, depth, q, draft, counts, word);
+    let next = put_string(text, ends, Kind::Field, depth, q, draft, counts, word);
     let aliases = members.aliases;
-    let first = first_alias(text, aliases);
-    put_field_aliases(text, depth + 1, first, draft, next, word)
+    let first = first_alias(text, ends, aliases);
+    put_field_aliases(text, ends, depth + 1, first, draft, next, word)
 }
 
 // 11, for the `fields` at a place, whose rows are counted.
-pub(crate) fn named_apart(text: &[u8], array: usize, counts: Counts) -> Walked
+pub(crate) fn named_apart(
+    text: &[u8],
+    ends: &[u16],
+    array: usize,
+    counts: Counts,
+    word: &mut [u8; 32768],
+) -> Walked
+    requires { ⌜ Known (now text) (now ends) ⌝ }
     ensures { λ r. ⌜ ((m : List ℕ) → Did m counts m r (after (fieldNamesCheck (now (text .entry)) [] (fieldsIn (now (text .entry)) array)) (read []))) ⌝ }
 {
-    match field_names(text, array) {
+    match field_names(text, ends, array, word) {
         Check::Bad(f) => Walked::Bad(f),
         Check::Fine => Walked::Read(counts),
     }

@@ -11,6 +11,7 @@ use row::Kind;
 use row::write::push;
 use view::Spot;
 use view::first_element;
+use view::literal;
 use view::next_element;
 use view::string_copy;
 ghost use mathlib.Core.Path.{_≡_};
@@ -19,6 +20,7 @@ ghost use lib.ListN.{length};
 ghost use Rattle.row.specs.Memory.{counted, pushed};
 ghost use Rattle.view.specs.Elements.{elementsAt, elements};
 ghost use Rattle.view.specs.Strings.{stringAt};
+ghost use Rattle.view.specs.Known.{Known};
 ghost use Rattle.form.specs.Notes.{noted};
 ghost use Rattle.schema.specs.Out.{each};
 ghost use Rattle.schema.specs.Schema.{rowWith, aliasRows, fieldAliasRows, symbolRows};
@@ -65,6 +67,7 @@ pub(crate) fn put(
 // The same with the string at `at`.
 pub(crate) fn put_string(
     text: &[u8],
+    ends: &[u16],
     kind: Kind,
     depth: u16,
     at: usize,
@@ -72,11 +75,17 @@ pub(crate) fn put_string(
     counts: Counts,
     word: &mut [u8; 32768],
 ) -> Counts
-    requires { ⌜ (length (now text) ≤ 32768) × (at < 65536) ⌝ }
+    requires { ⌜ (length (now text) ≤ 32768) × (at < 65536) × Known (now text) (now ends) ⌝ }
     ensures { λ r. ⌜ (r ≡ counted counts (length (stringAt (now (text .entry)) at)))
         × (now (draft .exit) ≡ pushed (now (draft .entry)) counts (rowWith kind depth at (stringAt (now (text .entry)) at) 0 (noted 0))) ⌝ }
 {
-    let n = string_copy(text, at, word);
+    let e = literal(text, ends, at);
+    if 0 < e {
+        let start = at + 1;
+        let stop = e - 1;
+        return put(draft, counts, kind, depth, at, &text[start..stop]);
+    }
+    let n = string_copy(text, ends, at, word);
     let all = &word[..];
     put(draft, counts, kind, depth, at, &all[0..n])
 }
@@ -85,6 +94,7 @@ pub(crate) fn put_string(
 
 fn put_alias(
     text: &[u8],
+    ends: &[u16],
     namespace: &[u8],
     word: &mut [u8; 32768],
     full: &mut [u8; 255],
@@ -93,10 +103,10 @@ fn put_alias(
     depth: u16,
     at: usize,
 ) -> Walked
-    requires { ⌜ length (now text) ≤ 32768 ⌝ }
+    requires { ⌜ (length (now text) ≤ 32768) × Known (now text) (now ends) ⌝ }
     ensures { λ r. ⌜ Did (now (draft .entry)) counts (now (draft .exit)) r (aliasRows (now (text .entry)) (now (namespace .entry)) depth at) ⌝ }
 {
-    match alias(text, namespace, at, word, full) {
+    match alias(text, ends, namespace, at, word, full) {
         Named::Wrong(f) => Walked::Bad(f),
         Named::Kept(n) => {
             let all = &full[..];
@@ -109,6 +119,7 @@ fn put_alias(
 // Those from a place on, in the definition's own namespace.
 pub(crate) fn put_aliases(
     text: &[u8],
+    ends: &[u16],
     namespace: &[u8],
     depth: u16,
     first: Spot,
@@ -116,7 +127,7 @@ pub(crate) fn put_aliases(
     counts: Counts,
     word: &mut [u8; 32768],
 ) -> Walked
-    requires { ⌜ length (now text) ≤ 32768 ⌝ }
+    requires { ⌜ (length (now text) ≤ 32768) × Known (now text) (now ends) ⌝ }
     ensures { λ r. ⌜ Did (now (draft .entry)) counts (now (draft .exit)) r (each (aliasRows (now (text .entry)) (now (namespace .entry)) depth) (elementsAt (now (text .entry)) first)) ⌝ }
 {
     let mut full: [u8; 255] = [0; 255];
@@ -126,13 +137,13 @@ pub(crate) fn put_aliases(
         let Spot::At(p) = spot else {
             return Walked::Read(sum);
         };
-        match put_alias(text, namespace, word, &mut full, draft, sum, depth, p) {
+        match put_alias(text, ends, namespace, word, &mut full, draft, sum, depth, p) {
             Walked::Bad(f) => return Walked::Bad(f),
             Walked::Read(next) => {
                 sum = next;
             }
         }
-        spot = next_element(text, p);
+        spot = next_element(text, ends, p);
     }
 }
 
@@ -140,19 +151,20 @@ pub(crate) fn put_aliases(
 
 fn put_field_alias(
     text: &[u8],
+    ends: &[u16],
     depth: u16,
     at: usize,
     draft: &mut [u8],
     counts: Counts,
     word: &mut [u8; 32768],
 ) -> Walked
-    requires { ⌜ length (now text) ≤ 32768 ⌝ }
+    requires { ⌜ (length (now text) ≤ 32768) × Known (now text) (now ends) ⌝ }
     ensures { λ r. ⌜ Did (now (draft .entry)) counts (now (draft .exit)) r (fieldAliasRows (now (text .entry)) depth at) ⌝ }
 {
-    match simple_check(text, at, word) {
+    match simple_check(text, ends, at, word) {
         Check::Bad(f) => Walked::Bad(f),
         Check::Fine => {
-            let next = put_string(text, Kind::FieldAlias, depth, at, draft, counts, word);
+            let next = put_string(text, ends, Kind::FieldAlias, depth, at, draft, counts, word);
             Walked::Read(next)
         }
     }
@@ -161,13 +173,14 @@ fn put_field_alias(
 // Those from a place on.
 pub(crate) fn put_field_aliases(
     text: &[u8],
+    ends: &[u16],
     depth: u16,
     first: Spot,
     draft: &mut [u8],
     counts: Counts,
     word: &mut [u8; 32768],
 ) -> Walked
-    requires { ⌜ length (now text) ≤ 32768 ⌝ }
+    requires { ⌜ (length (now text) ≤ 32768) × Known (now text) (now ends) ⌝ }
     ensures { λ r. ⌜ Did (now (draft .entry)) counts (now (draft .exit)) r (each (fieldAliasRows (now (text .entry)) depth) (elementsAt (now (text .entry)) first)) ⌝ }
 {
     let mut sum = counts;
@@ -176,13 +189,13 @@ pub(crate) fn put_field_aliases(
         let Spot::At(p) = spot else {
             return Walked::Read(sum);
         };
-        match put_field_alias(text, depth, p, draft, sum, word) {
+        match put_field_alias(text, ends, depth, p, draft, sum, word) {
             Walked::Bad(f) => return Walked::Bad(f),
             Walked::Read(next) => {
                 sum = next;
             }
         }
-        spot = next_element(text, p);
+        spot = next_element(text, ends, p);
     }
 }
 
@@ -190,13 +203,14 @@ pub(crate) fn put_field_aliases(
 
 pub(crate) fn put_symbols(
     text: &[u8],
+    ends: &[u16],
     depth: u16,
     array: usize,
     draft: &mut [u8],
     counts: Counts,
     word: &mut [u8; 32768],
 ) -> Walked
-    requires { ⌜ length (now text) ≤ 32768 ⌝ }
+    requires { ⌜ (length (now text) ≤ 32768) × Known (now text) (now ends) ⌝ }
     ensures { λ r. ⌜ Did (now (draft .entry)) counts (now (draft .exit)) r (each (symbolRows (now (text .entry)) depth) (elements (now (text .entry)) array)) ⌝ }
 {
     let mut sum = counts;
@@ -205,7 +219,7 @@ pub(crate) fn put_symbols(
         let Spot::At(p) = spot else {
             return Walked::Read(sum);
         };
-        sum = put_string(text, Kind::Symbol, depth, p, draft, sum, word);
-        spot = next_element(text, p);
+        sum = put_string(text, ends, Kind::Symbol, depth, p, draft, sum, word);
+        spot = next_element(text, ends, p);
     }
 }

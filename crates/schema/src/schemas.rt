@@ -32,10 +32,12 @@ ghost use Rattle.form.specs.Spots.{fieldsIn};
 ghost use Rattle.schema.specs.Out.{refused};
 ghost use Rattle.schema.specs.Schema.{schemaOf, within, partRows, unionRows, recordRows, fieldsRows};
 ghost use Rattle.schema.specs.Did.{Did, Asks, around, elementRows};
+ghost use Rattle.view.specs.Known.{Known};
 
 // The schema at `at`, in which `left` may nest.
 pub(crate) fn put_schema(
     text: &[u8],
+    ends: &[u16],
     namespace: &[u8],
     standing: Standing,
     at: usize,
@@ -44,9 +46,8 @@ pub(crate) fn put_schema(
     draft: &mut [u8],
     counts: Counts,
     word: &mut [u8; 32768],
-    space: &mut [u8; 32768],
 ) -> Walked
-    requires { ⌜ Asks (now text) depth left ⌝ }
+    requires { ⌜ (Asks (now text) depth left) × Known (now text) (now ends) ⌝ }
     ensures { λ r. ⌜ Did (now (draft .entry)) counts (now (draft .exit)) r (schemaOf left (now (text .entry)) (around (now (namespace .entry)) standing) depth at) ⌝ }
 {
     if left == 0 {
@@ -55,7 +56,7 @@ pub(crate) fn put_schema(
             at,
         });
     }
-    let found = find(text, at);
+    let found = find(text, ends, at);
     let form = found.form;
     let members = found.members;
     let items = members.items;
@@ -66,9 +67,9 @@ pub(crate) fn put_schema(
         Form::Wrong(f) => Walked::Bad(f),
         Form::Word(q, _) => put_word(
             text,
+            ends,
             namespace,
             word,
-            space,
             &mut full,
             draft,
             counts,
@@ -79,6 +80,7 @@ pub(crate) fn put_schema(
         ),
         Form::ArrayOf(p) => put_part(
             text,
+            ends,
             namespace,
             standing,
             Kind::Array,
@@ -90,10 +92,10 @@ pub(crate) fn put_schema(
             draft,
             counts,
             word,
-            space,
         ),
         Form::MapOf(p) => put_part(
             text,
+            ends,
             namespace,
             standing,
             Kind::Map,
@@ -105,10 +107,10 @@ pub(crate) fn put_schema(
             draft,
             counts,
             word,
-            space,
         ),
         Form::UnionOf(p) => put_union(
             text,
+            ends,
             namespace,
             standing,
             p,
@@ -117,13 +119,12 @@ pub(crate) fn put_schema(
             draft,
             counts,
             word,
-            space,
         ),
         Form::RecordOf(p) => put_record(
             text,
+            ends,
             namespace,
             word,
-            space,
             &mut full,
             draft,
             counts,
@@ -135,6 +136,7 @@ pub(crate) fn put_schema(
         ),
         Form::EnumOf(p) => put_enum(
             text,
+            ends,
             namespace,
             standing,
             depth,
@@ -143,10 +145,10 @@ pub(crate) fn put_schema(
             draft,
             counts,
             word,
-            space,
         ),
         Form::FixedOf(p) => put_fixed(
             text,
+            ends,
             namespace,
             standing,
             depth,
@@ -155,7 +157,6 @@ pub(crate) fn put_schema(
             draft,
             counts,
             word,
-            space,
         ),
     }
 }
@@ -163,6 +164,7 @@ pub(crate) fn put_schema(
 // The array or map at `at`, and its one part.
 fn put_part(
     text: &[u8],
+    ends: &[u16],
     namespace: &[u8],
     standing: Standing,
     kind: Kind,
@@ -174,12 +176,11 @@ fn put_part(
     draft: &mut [u8],
     counts: Counts,
     word: &mut [u8; 32768],
-    space: &mut [u8; 32768],
 ) -> Walked
-    requires { ⌜ Asks (now text) (depth + 1) left × (at < 65536) ⌝ }
+    requires { ⌜ Asks (now text) (depth + 1) left × (at < 65536) × Known (now text) (now ends) ⌝ }
     ensures { λ r. ⌜ Did (now (draft .entry)) counts (now (draft .exit)) r (partRows (schemaOf left (now (text .entry))) (now (text .entry)) (around (now (namespace .entry)) standing) kind depth at part (refused (fault missing at))) ⌝ }
 {
-    if let Check::Bad(f) = new_kind(text, standing, kind) {
+    if let Check::Bad(f) = new_kind(text, ends, standing, kind) {
         return Walked::Bad(f);
     }
     let Spot::At(q) = part else {
@@ -188,6 +189,7 @@ fn put_part(
     let next = put(draft, counts, kind, depth, at, b"");
     put_schema(
         text,
+        ends,
         namespace,
         Standing::Alone,
         q,
@@ -196,13 +198,13 @@ fn put_part(
         draft,
         next,
         word,
-        space,
     )
 }
 
 // The union at `at`.
 fn put_union(
     text: &[u8],
+    ends: &[u16],
     namespace: &[u8],
     standing: Standing,
     at: usize,
@@ -211,12 +213,11 @@ fn put_union(
     draft: &mut [u8],
     counts: Counts,
     word: &mut [u8; 32768],
-    space: &mut [u8; 32768],
 ) -> Walked
-    requires { ⌜ Asks (now text) (depth + 1) left × (at < 65536) ⌝ }
+    requires { ⌜ Asks (now text) (depth + 1) left × (at < 65536) × Known (now text) (now ends) ⌝ }
     ensures { λ r. ⌜ Did (now (draft .entry)) counts (now (draft .exit)) r (unionRows (schemaOf left (now (text .entry))) (now (text .entry)) (around (now (namespace .entry)) standing) depth at) ⌝ }
 {
-    if let Check::Bad(f) = new_kind(text, standing, Kind::Union) {
+    if let Check::Bad(f) = new_kind(text, ends, standing, Kind::Union) {
         return Walked::Bad(f);
     }
     let mut sum = put(draft, counts, Kind::Union, depth, at, b"");
@@ -228,6 +229,7 @@ fn put_union(
         let member = Standing::MemberOf(at, p);
         match put_schema(
             text,
+            ends,
             namespace,
             member,
             p,
@@ -236,23 +238,22 @@ fn put_union(
             draft,
             sum,
             word,
-            space,
         ) {
             Walked::Bad(f) => return Walked::Bad(f),
             Walked::Read(next) => {
                 sum = next;
             }
         }
-        spot = next_element(text, p);
+        spot = next_element(text, ends, p);
     }
 }
 
 // The record at `at`: its fields see its own namespace.
 fn put_record(
     text: &[u8],
+    ends: &[u16],
     namespace: &[u8],
     word: &mut [u8; 32768],
-    space: &mut [u8; 32768],
     full: &mut [u8; 255],
     draft: &mut [u8],
     counts: Counts,
@@ -262,7 +263,7 @@ fn put_record(
     depth: u16,
     left: usize,
 ) -> Walked
-    requires { ⌜ Asks (now text) (depth + 2) left ⌝ }
+    requires { ⌜ (Asks (now text) (depth + 2) left) × Known (now text) (now ends) ⌝ }
     ensures { λ r. ⌜ Did (now (draft .entry)) counts (now (draft .exit)) r (recordRows (schemaOf left (now (text .entry))) (now (text .entry)) (around (now (namespace .entry)) standing) depth at members) ⌝ }
 {
     let none = Note {
@@ -272,9 +273,9 @@ fn put_record(
     };
     match define(
         text,
+        ends,
         namespace,
         word,
-        space,
         full,
         draft,
         counts,
@@ -297,7 +298,7 @@ fn put_record(
             };
             let all = &full[..];
             let own = namespace_part(&all[0..n]);
-            put_fields(text, own, v, depth + 1, left, draft, next, word, space)
+            put_fields(text, ends, own, v, depth + 1, left, draft, next, word)
         }
     }
 }
@@ -305,6 +306,7 @@ fn put_record(
 // The fields in the array, and then their names in order.
 fn put_fields(
     text: &[u8],
+    ends: &[u16],
     namespace: &[u8],
     array: usize,
     depth: u16,
@@ -312,30 +314,30 @@ fn put_fields(
     draft: &mut [u8],
     counts: Counts,
     word: &mut [u8; 32768],
-    space: &mut [u8; 32768],
 ) -> Walked
-    requires { ⌜ Asks (now text) (depth + 1) left ⌝ }
+    requires { ⌜ (Asks (now text) (depth + 1) left) × Known (now text) (now ends) ⌝ }
     ensures { λ r. ⌜ Did (now (draft .entry)) counts (now (draft .exit)) r (fieldsRows (schemaOf left (now (text .entry)) (within (now (namespace .entry)))) (now (text .entry)) depth (fieldsIn (now (text .entry)) array)) ⌝ }
 {
     let mut sum = counts;
     let mut spot = first_element(text, array);
     loop {
         let Spot::At(p) = spot else {
-            return named_apart(text, array, sum);
+            return named_apart(text, ends, array, sum, word);
         };
-        match put_field(text, namespace, p, depth, left, draft, sum, word, space) {
+        match put_field(text, ends, namespace, p, depth, left, draft, sum, word) {
             Walked::Bad(f) => return Walked::Bad(f),
             Walked::Read(next) => {
                 sum = next;
             }
         }
-        spot = next_element(text, p);
+        spot = next_element(text, ends, p);
     }
 }
 
 // The field at `at`, and its type; what is no object is no field.
 fn put_field(
     text: &[u8],
+    ends: &[u16],
     namespace: &[u8],
     at: usize,
     depth: u16,
@@ -343,16 +345,15 @@ fn put_field(
     draft: &mut [u8],
     counts: Counts,
     word: &mut [u8; 32768],
-    space: &mut [u8; 32768],
 ) -> Walked
-    requires { ⌜ Asks (now text) (depth + 1) left ⌝ }
+    requires { ⌜ (Asks (now text) (depth + 1) left) × Known (now text) (now ends) ⌝ }
     ensures { λ r. ⌜ Did (now (draft .entry)) counts (now (draft .exit)) r (elementRows (schemaOf left (now (text .entry)) (within (now (namespace .entry)))) (now (text .entry)) depth at) ⌝ }
 {
     if !is_object(text, at) {
         return Walked::Read(counts);
     }
-    let members = members_at(text, at);
-    match put_field_head(text, depth, at, members, draft, counts, word) {
+    let members = members_at(text, ends, at);
+    match put_field_head(text, ends, depth, at, members, draft, counts, word) {
         Walked::Bad(f) => Walked::Bad(f),
         Walked::Read(next) => {
             let typed = members.typed;
@@ -364,6 +365,7 @@ fn put_field(
             };
             put_schema(
                 text,
+                ends,
                 namespace,
                 Standing::Alone,
                 q,
@@ -372,7 +374,6 @@ fn put_field(
                 draft,
                 next,
                 word,
-                space,
             )
         }
     }

@@ -25,13 +25,14 @@ ghost use Rattle.row.specs.declared.kind.Kind.the-variants.{Bytes};
 ghost use Rattle.form.specs.Notes.{noted, noteOf};
 ghost use Rattle.schema.specs.Schema.{referenceRows};
 ghost use Rattle.schema.specs.Did.{Did, around, primitiveWith, wordWith};
+ghost use Rattle.view.specs.Known.{Known};
 
 // The reference at `at`.
 fn put_reference(
     text: &[u8],
+    ends: &[u16],
     namespace: &[u8],
     word: &mut [u8; 32768],
-    space: &mut [u8; 32768],
     full: &mut [u8; 255],
     draft: &mut [u8],
     counts: Counts,
@@ -39,14 +40,14 @@ fn put_reference(
     depth: u16,
     at: usize,
 ) -> Walked
-    requires { ⌜ length (now text) ≤ 32768 ⌝ }
+    requires { ⌜ (length (now text) ≤ 32768) × Known (now text) (now ends) ⌝ }
     ensures { λ r. ⌜ Did (now (draft .entry)) counts (now (draft .exit)) r (referenceRows (now (text .entry)) (around (now (namespace .entry)) standing) depth at) ⌝ }
 {
-    match reference(text, namespace, at, word, full) {
+    match reference(text, ends, namespace, at, word, full) {
         Named::Wrong(f) => Walked::Bad(f),
         Named::Kept(n) => {
             let all = &full[..];
-            match new_name(text, namespace, standing, &all[0..n], word, space) {
+            match new_name(text, ends, namespace, standing, &all[0..n], word) {
                 Check::Bad(f) => Walked::Bad(f),
                 Check::Fine => {
                     let next = put(draft, counts, Kind::Reference, depth, at, &all[0..n]);
@@ -58,11 +59,12 @@ fn put_reference(
 }
 
 // Of bytes alone, the decimal's note.
-fn note_of(text: &[u8], kind: Kind, members: Members) -> Note
+fn note_of(text: &[u8], ends: &[u16], kind: Kind, members: Members) -> Note
+    requires { ⌜ Known (now text) (now ends) ⌝ }
     ensures { λ r. ⌜ r ≡ cond (eqb (kindNumber kind) (kindNumber Bytes)) (noteOf (now (text .entry)) members) (noted 0) ⌝ }
 {
     if kind.number() == Kind::Bytes.number() {
-        return decimal_note(text, members);
+        return decimal_note(text, ends, members);
     }
     Note {
         note: 0,
@@ -74,6 +76,7 @@ fn note_of(text: &[u8], kind: Kind, members: Members) -> Note
 // The primitive at `at`, the `type` of the object with these members.
 fn put_primitive(
     text: &[u8],
+    ends: &[u16],
     namespace: &[u8],
     standing: Standing,
     depth: u16,
@@ -83,13 +86,13 @@ fn put_primitive(
     draft: &mut [u8],
     counts: Counts,
 ) -> Walked
-    requires { ⌜ at < 65536 ⌝ }
+    requires { ⌜ (at < 65536) × Known (now text) (now ends) ⌝ }
     ensures { λ r. ⌜ Did (now (draft .entry)) counts (now (draft .exit)) r (primitiveWith (now (text .entry)) (around (now (namespace .entry)) standing) depth kind at members) ⌝ }
 {
-    match new_kind(text, standing, kind) {
+    match new_kind(text, ends, standing, kind) {
         Check::Bad(f) => Walked::Bad(f),
         Check::Fine => {
-            let note = note_of(text, kind, members);
+            let note = note_of(text, ends, kind, members);
             let row = entry(kind, depth, at, 0, note);
             let next = push(draft, counts, row, b"");
             Walked::Read(next)
@@ -100,9 +103,9 @@ fn put_primitive(
 // The string at `at`, with the members of the object whose `type` it is.
 pub(crate) fn put_word(
     text: &[u8],
+    ends: &[u16],
     namespace: &[u8],
     word: &mut [u8; 32768],
-    space: &mut [u8; 32768],
     full: &mut [u8; 255],
     draft: &mut [u8],
     counts: Counts,
@@ -111,16 +114,16 @@ pub(crate) fn put_word(
     at: usize,
     members: Members,
 ) -> Walked
-    requires { ⌜ length (now text) ≤ 32768 ⌝ }
+    requires { ⌜ (length (now text) ≤ 32768) × Known (now text) (now ends) ⌝ }
     ensures { λ r. ⌜ Did (now (draft .entry)) counts (now (draft .exit)) r (wordWith (now (text .entry)) (around (now (namespace .entry)) standing) depth at members) ⌝ }
 {
-    let kind = word_kind(text, at);
+    let kind = word_kind(text, ends, at);
     if kind.number() == Kind::Reference.number() {
         return put_reference(
             text,
+            ends,
             namespace,
             word,
-            space,
             full,
             draft,
             counts,
@@ -131,6 +134,7 @@ pub(crate) fn put_word(
     }
     put_primitive(
         text,
+        ends,
         namespace,
         standing,
         depth,

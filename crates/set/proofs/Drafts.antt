@@ -6,7 +6,7 @@ use mathlib.Core.List.{List}
 use Prim.Native.Nat.{ℕ, _+_, _≤_, min}
 use native.Mathlib.Omega.{arith}
 use lib.Dec.{ltb}
-use lib.ListN.{length}
+use lib.ListN.{length, length-replicate}
 use borrow.Author.Tests.{ltb-false}
 use Rattle.answer.specs.declared.counts.Counts.{Counts}
 use Rattle.answer.specs.declared.refusal.Fault.{Fault}
@@ -51,10 +51,10 @@ declared-kept t rows e = go (scanned t) refl e
     go Whole p q = kept t rows (scan-short t p) q
     go (scan.Bad f) p q = let o : _≡_ {A = ℕ} 0 1 = cc in absurd (omega arith)
 
--- ---- a draft of the layout's length, cleared, that a walk left as d
+-- ---- an empty draft of the layout's length that a walk left as d
 
-module _ (t d : List ℕ) (n : ℕ) (r : Walked) (long : n ≡ layoutLength) (did : Did (zeros n) noCounts d r (declared t)) (same : length d ≡ n) where
-  written : (rows : List Row) → declared t ≡ read rows → r ≡ Read (countedAll noCounts rows) → d ≡ pushedAll (zeros n) noCounts rows → Wrote′ d r (read rows)
+module _ (t d : List ℕ) (r : Walked) {m : List ℕ} (empty : m ≡ zeros layoutLength) (did : Did m noCounts d r (declared t)) (same : length d ≡ length m) where
+  written : (rows : List Row) → declared t ≡ read rows → r ≡ Read (countedAll noCounts rows) → d ≡ pushedAll m noCounts rows → Wrote′ d r (read rows)
   written rows e p q =
       let k : isDeclaration rows ≡ true = declared-kept t rows e in
       let c : Counts = countsOf 0 (min (0 + length rows) most) (min (0 + length (texts rows)) most) in
@@ -65,18 +65,18 @@ module _ (t d : List ℕ) (n : ℕ) (r : Walked) (long : n ≡ layoutLength) (di
           counted = omega arith;
           strings = omega arith;
           kept = k;
-          long = same ∙ long;
+          long = same ∙ ap length empty ∙ length-replicate {A = ℕ} layoutLength 0;
           fits = λ (h : c .rows ≤ rowLimit) (j : c .«string_bytes» ≤ stringLimit).
               (let l : length rows ≤ rowLimit = omega arith in
               let v : c .rows ≡ length rows = omega arith in
-              (omega arith, ap₂ (λ (b : List ℕ) (i : ℕ). rowsFrom b i 0) (q ∙ ap (λ (i : ℕ). pushedAll (zeros i) noCounts rows) long) v ∙ draft-rows rows l (omega arith) (declaration-fits rows k l)));
+              (omega arith, ap₂ (λ (b : List ℕ) (i : ℕ). rowsFrom b i 0) (q ∙ ap (λ (x : List ℕ). pushedAll x noCounts rows) empty) v ∙ draft-rows rows l (omega arith) (declaration-fits rows k l)));
         },
       )
 
   pub wrote : Wrote d r (declared t)
   wrote = go (declared t) refl did
     where
-      go : (o : Out) → declared t ≡ o → Did (zeros n) noCounts d r o → Wrote d r o
+      go : (o : Out) → declared t ≡ o → Did m noCounts d r o → Wrote d r o
       go (refused f) e x = record { wrote = x .did }
       go (read rows) e x = record { wrote = written rows e (x .did .0) (x .did .1) }
 

@@ -42,9 +42,9 @@ pub fn open(mem: &mut [u8]) -> Answer
     Answer::Done(Counts::none())
 }
 
-// The rows of a text in a draft, or its first fault.
+// The rows of a text in an empty draft, or its first fault.
 fn read_text(text: &[u8], draft: &mut [u8]) -> Walked
-    requires { ⌜ length (now draft) ≡ layoutLength ⌝ }
+    requires { ⌜ now draft ≡ zeros layoutLength ⌝ }
     ensures { λ r. ⌜ Wrote (now (draft .exit)) r (declared (now (text .entry))) ⌝ }
 {
     declare(text, draft)

@@ -1,12 +1,15 @@
 -- The number of a key: where its first byte is known, at most three keys are left to compare it with.
 -- Assumes nothing.
-use mathlib.Core.Path.{_≡_, refl}
+use mathlib.Core.Path.{_≡_, refl, sym}
 use mathlib.Core.Bool.{Bool, true, false, cond}
 use mathlib.Core.List.{List, [], _∷_}
-use Prim.Native.Nat.{ℕ, suc}
+use Prim.Native.Nat.{ℕ, suc, _+_, _-_, _<_, _≤_}
+use native.Mathlib.Nat.{sub-zero}
 use native.Mathlib.Omega.{arith}
+use lib.ListN.{length, take, drop}
 use borrow.Author.Tests.{ne-eqb}
-use Rattle.ground.specs.Bytes.{byteAt, same}
+use Rattle.ground.specs.Bytes.{byteAt, part, same, store}
+use Rattle.ground.proofs.Laws.{same-unlike, store-fits, part-front}
 use Rattle.view.specs.Members.{keys, indexOf, keyNumber, type-key, name-key, namespace-key, aliases-key, fields-key, symbols-key, default-key, size-key, items-key, values-key, logical-type-key, precision-key, scale-key}
 
 pub starts-t : (s : List ℕ) → byteAt s 0 ≡ 116 → cond (same s type-key) 0 13 ≡ keyNumber s
@@ -98,9 +101,9 @@ starts-s (x ∷ s) e = rw e (go (same s (121 ∷ 109 ∷ 98 ∷ 111 ∷ 108 ∷ 
     go false false true = refl
     go false false false = refl
 
--- no key starts with it
+-- no key starts with it, or is as long
 module _ (s : List ℕ) where
-  differs : (b : ℕ) (w : List ℕ) → (byteAt s 0 ≡ b → ⊥) → same s (b ∷ w) ≡ false
+  pub differs : (b : ℕ) (w : List ℕ) → (byteAt s 0 ≡ b → ⊥) → same s (b ∷ w) ≡ false
   unfolding byteAt same
   differs b w n = go s n
     where
@@ -115,6 +118,26 @@ module _ (s : List ℕ) where
   miss : (w : List ℕ) (ws : List (List ℕ)) → same s w ≡ false → {n : ℕ} → n ≡ indexOf s ws → suc n ≡ indexOf s (w ∷ ws)
   unfolding indexOf
   miss w ws e f = rw (e, ← f)
+
+  unlike : (w : List ℕ) → length w ≤ 16 → 16 < length s → same s w ≡ false
+  unlike w h l = same-unlike s w (λ (e : length s ≡ length w). omega arith)
+
+  pub long-none : 16 < length s → 13 ≡ keyNumber s
+  unfolding keys
+  long-none l =
+      miss _ _ (unlike type-key (omega arith) l)
+      (miss _ _ (unlike name-key (omega arith) l)
+      (miss _ _ (unlike namespace-key (omega arith) l)
+      (miss _ _ (unlike aliases-key (omega arith) l)
+      (miss _ _ (unlike fields-key (omega arith) l)
+      (miss _ _ (unlike symbols-key (omega arith) l)
+      (miss _ _ (unlike default-key (omega arith) l)
+      (miss _ _ (unlike size-key (omega arith) l)
+      (miss _ _ (unlike items-key (omega arith) l)
+      (miss _ _ (unlike values-key (omega arith) l)
+      (miss _ _ (unlike logical-type-key (omega arith) l)
+      (miss _ _ (unlike precision-key (omega arith) l)
+      (miss _ _ (unlike scale-key (omega arith) l) none-left))))))))))))
 
   module _ (t : byteAt s 0 ≡ 116 → ⊥) (n : byteAt s 0 ≡ 110 → ⊥) (y : byteAt s 0 ≡ 115 → ⊥) (a : byteAt s 0 ≡ 97 → ⊥) (f : byteAt s 0 ≡ 102 → ⊥)
       (d : byteAt s 0 ≡ 100 → ⊥) (i : byteAt s 0 ≡ 105 → ⊥) (v : byteAt s 0 ≡ 118 → ⊥) (l : byteAt s 0 ≡ 108 → ⊥) (p : byteAt s 0 ≡ 112 → ⊥) where
@@ -134,3 +157,8 @@ module _ (s : List ℕ) where
         (miss _ _ (differs 108 (111 ∷ 103 ∷ 105 ∷ 99 ∷ 97 ∷ 108 ∷ 84 ∷ 121 ∷ 112 ∷ 101 ∷ []) l)
         (miss _ _ (differs 112 (114 ∷ 101 ∷ 99 ∷ 105 ∷ 115 ∷ 105 ∷ 111 ∷ 110 ∷ []) p)
         (miss _ _ (differs 115 (99 ∷ 97 ∷ 108 ∷ 101 ∷ []) y) none-left))))))))))))
+
+-- a key that was copied, as far as it was
+pub copied : (m s : List ℕ) {n : ℕ} {after : List ℕ} → n ≡ length s → after ≡ store m 0 s → n ≤ length m → take (n - 0) (drop 0 after) ≡ s
+unfolding part
+copied m s {n} e f h = rw (f, sub-zero, store-fits m 0 s (omega arith)) (part-front s (drop (0 + length s) m) n (sym e))

@@ -20,6 +20,7 @@ use Rattle.view.proofs.Visits.{first-ahead, next-ahead, first-key-ahead
 use Rattle.view.proofs.Undone.{unit-small}
 pub use Rattle.view.proofs.Places.{in-text, value-in-text, skip-ahead, skip-within, end-ahead, end-within}
 pub use Rattle.view.proofs.Visits.{elements-next, elements-done, elements-few, left-start, left-done, left-next, keys-next, keys-done}
+pub use Rattle.view.proofs.Known.{known-none}
 pub use Rattle.view.proofs.Undone.{bytes-stop, bytes-next, string-short}
 
 -- every element of a list

@@ -96,8 +96,11 @@ pub record Passing (t : List ℕ) (p : ℕ) (f : List Spot) (e : Entry) : Type 0
   pub true-entry : e ≡ entryOf t (keyOf e)
   pub will-be : found t f (keyOf e) ≡ entries t p
 
-own : (t : List ℕ) (e : Entry) (s : Spot) → e ≡ entryOf t s → keyOf e ≡ s
+pub own : (t : List ℕ) (e : Entry) (s : Spot) → e ≡ entryOf t s → keyOf e ≡ s
 own t e s h = ap keyOf h ∙ key-of t s
+
+pub true-turn : (t : List ℕ) (s : Spot) {e : Entry} → e ≡ entryOf t s → e ≡ entryOf t (keyOf e)
+true-turn t s {e} h = h ∙ ap (λ (s : Spot). entryOf t s) (sym (own t e s h))
 
 pub pass-start : (t : List ℕ) (p : ℕ) {f : List Spot} {e : Entry} → f ≡ Nowhere ∷ none → e ≡ entryOf t (firstKey t p) → Passing t p f e
 unfolding found entries member membersAt
@@ -105,7 +108,7 @@ pass-start t p {f} {e} g h =
     let k = own t e (firstKey t p) h in
     record {
       fourteen = ap length g;
-      true-entry = h ∙ ap (λ (s : Spot). entryOf t s) (sym k);
+      true-entry = true-turn t (firstKey t p) h;
       will-be = rw (g, k) (ap (λ (l : List Spot). fill t l (membersAt t p)) none-is ∙ fill-map t (membersAt t p) (λ w. Nowhere));
     }
 
@@ -129,39 +132,36 @@ pub number-few : (s : List ℕ) {n : ℕ} → n ≡ keyNumber s → n < 14
 unfolding keys
 number-few s e = let h = index-few s keys in omega arith
 
+-- the entry's value is that of its key, and its key is the next that is read
+module _ (t : List ℕ) {e : Entry} {k v : ℕ} (i : e ≡ entryOf t (keyOf e)) (h : e ≡ Of k v) where
+  pub own-value : v ≡ valueOf t k
+  own-value = go (rw h at i)
+    where
+      go : Of k v ≡ Of k (valueOf t k) → v ≡ valueOf t k
+      go q = cc
+
+  pub keys-turn : {e′ : Entry} → e′ ≡ entryOf t (keyBehind t v) → keysAt t (keyOf e) ≡ k ∷ keysAt t (keyOf e′)
+  keys-turn {e′} d =
+      ap (λ (x : Entry). keysAt t (keyOf x)) h ∙ keys-next t k ∙ ap (λ (x : ℕ). k ∷ keysAt t (keyBehind t x)) (sym own-value)
+      ∙ ap (λ (s : Spot). k ∷ keysAt t s) (sym (own t e′ (keyBehind t v) d))
+
+  -- fewer members are left to read
+  pub pass-less : {e′ : Entry} → e′ ≡ entryOf t (keyBehind t v) → length (keysAt t (keyOf e′)) < length (keysAt t (keyOf e))
+  pass-less d = omega (arith, ap length (keys-turn d))
+
 -- one more member is read
 pub pass-turn : (t : List ℕ) (p : ℕ) {f g : List Spot} {e e′ : Entry} {k v n : ℕ} → Passing t p f e → e ≡ Of k v → n ≡ keyNumber (stringAt t k)
     → g ≡ set f n (At v) → e′ ≡ entryOf t (keyBehind t v) → Passing t p g e′
 unfolding found fill
 pass-turn t p {f} {g} {e} {e′} {k} {v} {n} i h a b d =
-    let o = own t e′ (keyBehind t v) d in
-    let w : v ≡ valueOf t k = of-value (rw h at (i .true-entry)) in
     record {
       fourteen = ap length b ∙ length-set f n (At v) ∙ i .fourteen;
-      true-entry = d ∙ ap (λ (s : Spot). entryOf t s) (sym o);
+      true-entry = true-turn t (keyBehind t v) d;
       will-be =
-          ap (λ (s : Spot). found t g s) o
-          ∙ rw (b, take-set f n (At v), a, w) refl
-          ∙ ap (λ (l : List ℕ). fill t (take 13 f) (map (memberOf t) l)) (sym (keys-next t k))
-          ∙ ap (λ (x : Entry). found t f (keyOf x)) (sym h)
+          rw (b, take-set f n (At v), a, own-value t (i .true-entry) h) refl
+          ∙ ap (λ (l : List ℕ). fill t (take 13 f) (map (memberOf t) l)) (sym (keys-turn t (i .true-entry) h d))
           ∙ i .will-be;
     }
-  where
-    of-value : Of k v ≡ Of k (valueOf t k) → v ≡ valueOf t k
-    of-value q = cc
-
--- as many members are left to read
-pub pass-less : (t : List ℕ) {e e′ : Entry} {k v : ℕ} → e ≡ entryOf t (keyOf e) → e ≡ Of k v → e′ ≡ entryOf t (keyBehind t v)
-    → length (keysAt t (keyOf e′)) < length (keysAt t (keyOf e))
-pass-less t {e} {e′} {k} {v} i h d =
-    let o = own t e′ (keyBehind t v) d in
-    let w : v ≡ valueOf t k = of-value (rw h at i) in
-    let a : keysAt t (keyOf e) ≡ k ∷ keysAt t (keyOf e′) =
-    ap (λ (x : Entry). keysAt t (keyOf x)) h ∙ keys-next t k ∙ ap (λ (x : ℕ). k ∷ keysAt t (keyBehind t x)) (sym w) ∙ ap (λ (s : Spot). k ∷ keysAt t s) (sym o) in
-    omega (arith, ap length a)
-  where
-    of-value : Of k v ≡ Of k (valueOf t k) → v ≡ valueOf t k
-    of-value q = cc
 
 -- all are read
 pub pass-end : (t : List ℕ) (p : ℕ) {f : List Spot} {e : Entry} → Passing t p f e → e ≡ Last → take 13 f ≡ entries t p

@@ -15,6 +15,7 @@ use Rattle.view.specs.declared.space.Spot.the-variants.{At, Nowhere}
 use Rattle.view.specs.declared.members.Entry.{Entry}
 use Rattle.view.specs.declared.members.Entry.the-variants.{Of, Last}
 use Rattle.view.specs.declared.members.Members.{Members}
+use Rattle.view.specs.declared.members.Titles.{Titles}
 
 -- behind the key at k: white space and the colon; behind that: white space and the value
 abbrev pub colonOf : List ℕ → ℕ → ℕ
@@ -130,6 +131,9 @@ membersOf t p = record {
   scale = member t p scale-key;
 }
 
+unfoldable pub titlesOf : List ℕ → ℕ → Titles
+titlesOf t p = record { name = member t p name-key; aliases = member t p aliases-key }
+
 -- ---- what the code holds on the way
 
 -- the number of a key: its place in a list, or the list's length
@@ -139,6 +143,10 @@ indexOf s (w ∷ ws) = let more = suc (indexOf s ws) in cond (same s w) 0 more
 
 abbrev pub keyNumber : List ℕ → ℕ
 keyNumber s = indexOf s keys
+
+-- the same number for a key that names an object, and that of all other keys for every other
+unfoldable pub titleNumber : List ℕ → ℕ
+titleNumber s = cond (same s name-key) 1 (cond (same s aliases-key) 3 13)
 
 -- a key's place, with its value's
 abbrev pub entryOf : List ℕ → Spot → Entry

@@ -6,7 +6,8 @@ use mathlib.Core.Bool.{Bool, cond, _||_}
 use mathlib.Core.List.{List, [], _∷_, _++_}
 use lib.Dec.{eqb, ltb, leb}
 use lib.ListN.{length, take, drop}
-use Rattle.ground.specs.Bytes.{byteAt}
+use Rattle.ground.specs.Bytes.{byteAt, part}
+use Rattle.view.specs.Ends.{closingOf}
 use Rattle.view.specs.declared.strings.Piece.{Piece}
 use Rattle.view.specs.declared.strings.Cursor.{Cursor}
 use Rattle.view.specs.declared.strings.Step.{Step}
@@ -74,6 +75,13 @@ unfoldable pub stringAt : List ℕ → ℕ → List ℕ
 stringAt t p = cond (eqb (byteAt t p) 34) (bytesFrom t (p + 1)) []
 
 -- ---- what the code holds on the way
+
+-- in a string: the bytes from p up to q stand for themselves
+pub record Plainly (t : List ℕ) (p q : ℕ) : Type 0 where
+  pub ahead : p ≤ q
+  pub within : q ≤ length t
+  pub bytes : bytesFrom t p ≡ part t p (q - p) ++ bytesFrom t q
+  pub closing : closingOf t 1 0 q ≡ closingOf t 1 0 p
 
 -- an escape as a piece of up to four bytes
 pub record Spells (x : Piece) (y : Part) : Type 0 where

@@ -5,6 +5,7 @@ use super::space::Spot;
 use super::space::skip;
 use ground::byte_at;
 ghost use mathlib.Core.Path.{_≡_};
+ghost use Rattle.view.specs.Known.{Known};
 ghost use Rattle.view.specs.Elements.{valueFrom, firstElement, nextElement};
 
 // The value past the white space at `at`, if one stands there.
@@ -29,10 +30,11 @@ pub fn first_element(text: &[u8], at: usize) -> Spot
 }
 
 // The element behind the one at `at`.
-pub fn next_element(text: &[u8], at: usize) -> Spot
+pub fn next_element(text: &[u8], ends: &[u16], at: usize) -> Spot
+    requires { ⌜ Known (now text) (now ends) ⌝ }
     ensures { λ r. ⌜ r ≡ nextElement (now (text .entry)) at ⌝ }
 {
-    let e = skip(text, end(text, at));
+    let e = skip(text, end(text, ends, at));
     if byte_at(text, e) == b',' {
         return value_from(text, e + 1);
     }

@@ -1,10 +1,12 @@
 // Where a value ends.
 use super::bytes::is_delimiter;
+use super::table::known;
 use ground::byte_at;
 ghost use mathlib.Core.Path.{_≡_};
 ghost use mathlib.Core.Bool.{_||_};
 ghost use Prim.Native.Nat.{_+_, _-_, _≤_, _<_};
 ghost use lib.Dec.{eqb};
+ghost use Rattle.view.specs.Known.{Known};
 ghost use Rattle.view.specs.Ends.{literalEnd, depthAfter, closingOf, endOf};
 
 fn literal_end(text: &[u8], at: usize) -> usize
@@ -47,7 +49,7 @@ fn depth_after(b: u8, d: usize) -> usize
 }
 
 // Past the closing quote of the string that is open at `at`. A backslash takes the byte behind it along.
-fn past_escapes(text: &[u8], at: usize) -> usize
+pub(crate) fn past_escapes(text: &[u8], at: usize) -> usize
     ensures { λ r. ⌜ r ≡ closingOf (now (text .entry)) 1 0 at ⌝ }
 {
     let mut p = at;
@@ -113,7 +115,7 @@ fn past_bracket(text: &[u8], at: usize) -> usize
 }
 
 // Does an array or an object start with this byte?
-fn is_bracket(b: u8) -> bool
+pub(crate) fn is_bracket(b: u8) -> bool
     ensures { λ r. ⌜ r ≡ (eqb b 91 || eqb b 123) ⌝ }
 {
     if b == b'[' {
@@ -122,8 +124,8 @@ fn is_bracket(b: u8) -> bool
     b == b'{'
 }
 
-// Where the value that starts at `at` ends.
-pub fn end(text: &[u8], at: usize) -> usize
+// Where the value that starts at `at` ends, byte by byte.
+fn read_end(text: &[u8], at: usize) -> usize
     ensures { λ r. ⌜ r ≡ endOf (now (text .entry)) at ⌝ }
 {
     let b = byte_at(text, at);
@@ -134,4 +136,16 @@ pub fn end(text: &[u8], at: usize) -> usize
         return past_bracket(text, at + 1);
     }
     literal_end(text, at)
+}
+
+// The same, from the table where it is known.
+pub fn end(text: &[u8], ends: &[u16], at: usize) -> usize
+    requires { ⌜ Known (now text) (now ends) ⌝ }
+    ensures { λ r. ⌜ r ≡ endOf (now (text .entry)) at ⌝ }
+{
+    let e = known(ends, at);
+    if 0 < e {
+        return e;
+    }
+    read_end(text, at)
 }

@@ -1,14 +1,10 @@
-// Strings with escapes undone: byte by byte where there is one, else as they stand.
+// Strings with escapes undone.
 use ground::byte_at;
-use ground::copy;
 ghost use mathlib.Core.Path.{_≡_};
-ghost use mathlib.Core.Bool.{not, _&&_, _||_};
-ghost use mathlib.Core.List.{_++_};
-ghost use Prim.Native.Nat.{_+_, _-_, _<_, _≤_, max};
-ghost use lib.Dec.{eqb};
+ghost use Prim.Native.Nat.{_<_, _≤_};
 ghost use lib.ListN.{length, set};
-ghost use Rattle.ground.specs.Bytes.{byteAt, part, same, store};
-ghost use Rattle.view.specs.Strings.{hexOf, unitAt, utf8Of, shortOf, isStop, partOf, Spells, partAt, leftOf, Within, Reads, bytesFrom, stringAt};
+ghost use Rattle.ground.specs.Bytes.{byteAt, same, store};
+ghost use Rattle.view.specs.Strings.{hexOf, unitAt, utf8Of, shortOf, isStop, partOf, Spells, partAt, leftOf, Within, Reads, stringAt, Plainly};
 
 // An escape undone: its first n bytes, and where the next part stands.
 pub struct Piece {
@@ -160,7 +156,7 @@ fn escape_at(text: &[u8], at: usize) -> Piece
     utf8(u, at + 6)
 }
 
-fn next_byte(text: &[u8], c: Cursor) -> Step
+pub(crate) fn next_byte(text: &[u8], c: Cursor) -> Step
     requires { ⌜ Within (now text) c ⌝ }
     ensures { λ r. ⌜ Reads (now (text .entry)) (leftOf (now (text .entry)) c) r ⌝ }
 {
@@ -195,7 +191,7 @@ fn next_byte(text: &[u8], c: Cursor) -> Step
 }
 
 // Before the first byte of the string at `at`.
-fn opening(text: &[u8], at: usize) -> Cursor
+pub(crate) fn opening(text: &[u8], at: usize) -> Cursor
     ensures { λ r. ⌜ (leftOf (now (text .entry)) r ≡ stringAt (now (text .entry)) at) × Within (now (text .entry)) r ⌝ }
 {
     if byte_at(text, at) == b'"' {
@@ -210,58 +206,27 @@ fn opening(text: &[u8], at: usize) -> Cursor
     }
 }
 
-// Does the byte stand for itself? Most letters stand behind both marks.
-fn is_plain(b: u8) -> bool
-    ensures { λ r. ⌜ r ≡ not (isStop b || eqb b 92) ⌝ }
-{
-    if b > b'\\' {
-        return true;
-    }
-    if b == b'\\' {
-        return false;
-    }
-    if b > b'"' {
-        return true;
-    }
-    !is_stop(b)
-}
-
-// Past the bytes at `at` that stand for themselves.
-fn plain_end(text: &[u8], at: usize) -> usize
+// Past the bytes at `at` that stand for themselves. Most letters stand behind both marks.
+pub(crate) fn plain_end(text: &[u8], at: usize) -> usize
     requires { ⌜ at ≤ length (now text) ⌝ }
-    ensures { λ r. ⌜ (bytesFrom (now (text .entry)) at ≡ part (now (text .entry)) at (r - at) ++ bytesFrom (now (text .entry)) r) × (at ≤ r) × (r ≤ length (now (text .entry))) ⌝ }
+    ensures { λ r. ⌜ Plainly (now (text .entry)) at r ⌝ }
 {
     let mut p = at;
     while p < text.len() {
-        if is_plain(text[p]) {
+        let b = text[p];
+        if b > b'\\' {
             p += 1;
-        } else {
+            continue;
+        }
+        if b == b'\\' {
             return p;
         }
+        if is_stop(b) {
+            return p;
+        }
+        p += 1;
     }
     p
-}
-
-fn spelled_first(text: &[u8], at: usize) -> u8
-    ensures { λ r. ⌜ r ≡ byteAt (stringAt (now (text .entry)) at) 0 ⌝ }
-{
-    match next_byte(text, opening(text, at)) {
-        Step::End => 0,
-        Step::Byte(b, _) => b,
-    }
-}
-
-// The first byte of the string at `at`, 0 where it has none.
-pub fn first_byte(text: &[u8], at: usize) -> u8
-    ensures { λ r. ⌜ r ≡ byteAt (stringAt (now (text .entry)) at) 0 ⌝ }
-{
-    if byte_at(text, at) == b'"' {
-        let b = byte_at(text, at + 1);
-        if is_plain(b) {
-            return b;
-        }
-    }
-    spelled_first(text, at)
 }
 
 fn spelled_length(text: &[u8], at: usize) -> usize
@@ -294,7 +259,8 @@ pub fn string_length(text: &[u8], at: usize) -> usize
     spelled_length(text, at)
 }
 
-fn spelled_is(text: &[u8], at: usize, word: &[u8]) -> bool
+// Is the string at `at` the word?
+pub(crate) fn read_is(text: &[u8], at: usize, word: &[u8]) -> bool
     ensures { λ r. ⌜ r ≡ same (stringAt (now (text .entry)) at) (now (word .entry)) ⌝ }
 {
     let mut c = opening(text, at);
@@ -316,29 +282,6 @@ fn spelled_is(text: &[u8], at: usize, word: &[u8]) -> bool
     }
 }
 
-// Is the string at `at` the word?
-pub fn string_is(text: &[u8], at: usize, word: &[u8]) -> bool
-    ensures { λ r. ⌜ r ≡ same (stringAt (now (text .entry)) at) (now (word .entry)) ⌝ }
-{
-    if byte_at(text, at) != b'"' {
-        return spelled_is(text, at, word);
-    }
-    let mut p = at + 1;
-    let mut i: usize = 0;
-    while i < word.len() {
-        let b = byte_at(text, p);
-        if !is_plain(b) {
-            return spelled_is(text, at, word);
-        }
-        if b != word[i] {
-            return false;
-        }
-        p += 1;
-        i += 1;
-    }
-    is_stop(byte_at(text, p))
-}
-
 // Stores a byte where there is room.
 fn put(out: &mut [u8], i: usize, b: u8)
     ensures { λ _. ⌜ now (out .exit) ≡ set (now (out .entry)) i b ⌝ }
@@ -348,7 +291,8 @@ fn put(out: &mut [u8], i: usize, b: u8)
     }
 }
 
-fn spelled_copy(text: &[u8], at: usize, out: &mut [u8]) -> usize
+// The string at `at` as far as there is room; returns its length.
+pub(crate) fn read_copy(text: &[u8], at: usize, out: &mut [u8]) -> usize
     ensures { λ r. ⌜ (r ≡ length (stringAt (now (text .entry)) at)) × (now (out .exit) ≡ store (now (out .entry)) 0 (stringAt (now (text .entry)) at)) ⌝ }
 {
     let mut c = opening(text, at);
@@ -365,22 +309,8 @@ fn spelled_copy(text: &[u8], at: usize, out: &mut [u8]) -> usize
     }
 }
 
-// The string at `at` as far as there is room; returns its length.
-pub fn string_copy(text: &[u8], at: usize, out: &mut [u8]) -> usize
-    ensures { λ r. ⌜ (r ≡ length (stringAt (now (text .entry)) at)) × (now (out .exit) ≡ store (now (out .entry)) 0 (stringAt (now (text .entry)) at)) ⌝ }
-{
-    if byte_at(text, at) == b'"' {
-        let start = at + 1;
-        let e = plain_end(text, start);
-        if is_stop(byte_at(text, e)) {
-            copy(out, 0, &text[start..e]);
-            return e - start;
-        }
-    }
-    spelled_copy(text, at, out)
-}
-
-fn spelled_same(text: &[u8], one: usize, other: usize) -> bool
+// Are the strings at the two places the same?
+pub(crate) fn read_same(text: &[u8], one: usize, other: usize) -> bool
     ensures { λ r. ⌜ r ≡ same (stringAt (now (text .entry)) one) (stringAt (now (text .entry)) other) ⌝ }
 {
     let mut c = opening(text, one);
@@ -403,70 +333,4 @@ fn spelled_same(text: &[u8], one: usize, other: usize) -> bool
             },
         }
     }
-}
-
-fn larger(a: usize, b: usize) -> usize
-    ensures { λ r. ⌜ r ≡ max a b ⌝ }
-{
-    if a < b { b } else { a }
-}
-
-// How many bytes at the two places are the same and stand for themselves.
-fn alike(text: &[u8], p: usize, q: usize) -> usize
-    requires { ⌜ (p ≤ length (now text)) × (q ≤ length (now text)) ⌝ }
-    ensures { λ r. ⌜ (same (bytesFrom (now (text .entry)) (p + r)) (bytesFrom (now (text .entry)) (q + r)) ≡ same (bytesFrom (now (text .entry)) p) (bytesFrom (now (text .entry)) q)) × (p + r ≤ length (now (text .entry))) × (q + r ≤ length (now (text .entry))) ⌝ }
-{
-    let room = text.len() - larger(p, q);
-    let mut i: usize = 0;
-    while i < room {
-        let b = text[p + i];
-        if b != text[q + i] {
-            return i;
-        }
-        if !is_plain(b) {
-            return i;
-        }
-        i += 1;
-    }
-    i
-}
-
-// Are they two bytes, each of which stands for itself?
-fn differ(a: u8, b: u8) -> bool
-    ensures { λ r. ⌜ r ≡ (not (eqb a b) && not (isStop a || eqb a 92) && not (isStop b || eqb b 92)) ⌝ }
-{
-    if a == b {
-        return false;
-    }
-    if is_plain(a) {
-        return is_plain(b);
-    }
-    false
-}
-
-// Are the strings at the two places the same?
-pub fn strings_same(text: &[u8], one: usize, other: usize) -> bool
-    ensures { λ r. ⌜ r ≡ same (stringAt (now (text .entry)) one) (stringAt (now (text .entry)) other) ⌝ }
-{
-    if byte_at(text, one) != b'"' {
-        return spelled_same(text, one, other);
-    }
-    if byte_at(text, other) != b'"' {
-        return spelled_same(text, one, other);
-    }
-    let p = one + 1;
-    let q = other + 1;
-    let n = alike(text, p, q);
-    let a = byte_at(text, p + n);
-    let b = byte_at(text, q + n);
-    if differ(a, b) {
-        return false;
-    }
-    if is_stop(a) {
-        return is_stop(b);
-    }
-    if is_stop(b) {
-        return false;
-    }
-    spelled_same(text, one, other)
 }

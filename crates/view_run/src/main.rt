@@ -9,6 +9,7 @@ use view::Spot;
 ghost use mathlib.Core.Path.{_≡_};
 ghost use Prim.Native.Nat.{_<_, _≤_};
 ghost use lib.ListN.{length};
+ghost use Rattle.view.specs.Known.{Known};
 
 fn digit(b: u8) -> u8
     ensures { λ r. ⌜ r < 16 ⌝ }
@@ -81,9 +82,11 @@ fn print_spot(s: Spot) {
 }
 
 // The length of the string, and its first 16 bytes.
-fn print_string(text: &[u8], at: usize) {
+fn print_string(text: &[u8], ends: &[u16], at: usize)
+    requires { ⌜ Known (now text) (now ends) ⌝ }
+{
     let mut out = [0u8; 16];
-    let n = view::string_copy(text, at, &mut out);
+    let n = view::string_copy(text, ends, at, &mut out);
     print_number(view::string_length(text, at));
     io::write_all(STDOUT_FILENO, b" ");
     if n < 16 {
@@ -91,7 +94,7 @@ fn print_string(text: &[u8], at: usize) {
     } else {
         print_bytes(&out);
     }
-    print_flag(view::string_is(text, at, b"record"));
+    print_flag(view::string_is(text, ends, at, b"record"));
 }
 
 fn print_size(s: Size) {
@@ -135,15 +138,19 @@ fn print_members(m: Members) {
     print_spot(scale);
 }
 
-fn print_same(text: &[u8], first: Spot, p: usize) {
+fn print_same(text: &[u8], ends: &[u16], first: Spot, p: usize)
+    requires { ⌜ Known (now text) (now ends) ⌝ }
+{
     match first {
-        Spot::At(q) => print_flag(view::strings_same(text, q, p)),
+        Spot::At(q) => print_flag(view::strings_same(text, ends, q, p)),
         Spot::Nowhere => return,
     }
 }
 
 // Each element, and whether it is the same string as the first.
-fn print_elements(text: &[u8], at: usize) {
+fn print_elements(text: &[u8], ends: &[u16], at: usize)
+    requires { ⌜ Known (now text) (now ends) ⌝ }
+{
     let first = view::first_element(text, at);
     let mut spot = view::first_element(text, at);
     loop {
@@ -151,20 +158,22 @@ fn print_elements(text: &[u8], at: usize) {
             Spot::Nowhere => return,
             Spot::At(p) => {
                 print_number(p);
-                print_same(text, first, p);
-                spot = view::next_element(text, p);
+                print_same(text, ends, first, p);
+                spot = view::next_element(text, ends, p);
             }
         }
     }
 }
 
-fn print_value(text: &[u8], at: usize) {
+fn print_value(text: &[u8], ends: &[u16], at: usize)
+    requires { ⌜ Known (now text) (now ends) ⌝ }
+{
     print_number(at);
-    print_number(view::end(text, at));
+    print_number(view::end(text, ends, at));
     match view::shape_at(text, at) {
         Shape::Text => {
             io::write_all(STDOUT_FILENO, b" string");
-            print_string(text, at);
+            print_string(text, ends, at);
         }
         Shape::Number => {
             io::write_all(STDOUT_FILENO, b" number");
@@ -172,11 +181,11 @@ fn print_value(text: &[u8], at: usize) {
         }
         Shape::Object => {
             io::write_all(STDOUT_FILENO, b" object");
-            print_members(view::members_at(text, at));
+            print_members(view::members_at(text, ends, at));
         }
         Shape::Array => {
             io::write_all(STDOUT_FILENO, b" array");
-            print_elements(text, at);
+            print_elements(text, ends, at);
         }
         Shape::Word => {
             io::write_all(STDOUT_FILENO, b" word");
@@ -188,63 +197,80 @@ fn print_value(text: &[u8], at: usize) {
     io::write_all(STDOUT_FILENO, b"\n");
 }
 
-fn print_inner(text: &[u8], s: Spot) {
+fn print_inner(text: &[u8], ends: &[u16], s: Spot)
+    requires { ⌜ Known (now text) (now ends) ⌝ }
+{
     match s {
         Spot::At(p) => {
             io::write_all(STDOUT_FILENO, b" ");
-            print_value(text, p);
+            print_value(text, ends, p);
         }
         Spot::Nowhere => return,
     }
 }
 
-fn print_all_elements(text: &[u8], at: usize) {
+fn print_all_elements(text: &[u8], ends: &[u16], at: usize)
+    requires { ⌜ Known (now text) (now ends) ⌝ }
+{
     let mut spot = view::first_element(text, at);
     loop {
         match spot {
             Spot::Nowhere => return,
             Spot::At(p) => {
-                print_inner(text, Spot::At(p));
-                spot = view::next_element(text, p);
+                print_inner(text, ends, Spot::At(p));
+                spot = view::next_element(text, ends, p);
             }
         }
     }
 }
 
-fn print_all_members(text: &[u8], m: Members) {
+fn print_all_members(text: &[u8], ends: &[u16], m: Members)
+    requires { ⌜ Known (now text) (now ends) ⌝ }
+{
     let typed = m.typed;
-    print_inner(text, typed);
+    print_inner(text, ends, typed);
     let name = m.name;
-    print_inner(text, name);
+    print_inner(text, ends, name);
     let namespace = m.namespace;
-    print_inner(text, namespace);
+    print_inner(text, ends, namespace);
     let aliases = m.aliases;
-    print_inner(text, aliases);
+    print_inner(text, ends, aliases);
     let fields = m.fields;
-    print_inner(text, fields);
+    print_inner(text, ends, fields);
     let symbols = m.symbols;
-    print_inner(text, symbols);
+    print_inner(text, ends, symbols);
     let default = m.default;
-    print_inner(text, default);
+    print_inner(text, ends, default);
     let size = m.size;
-    print_inner(text, size);
+    print_inner(text, ends, size);
     let items = m.items;
-    print_inner(text, items);
+    print_inner(text, ends, items);
     let values = m.values;
-    print_inner(text, values);
+    print_inner(text, ends, values);
     let logical_type = m.logical_type;
-    print_inner(text, logical_type);
+    print_inner(text, ends, logical_type);
     let precision = m.precision;
-    print_inner(text, precision);
+    print_inner(text, ends, precision);
     let scale = m.scale;
-    print_inner(text, scale);
+    print_inner(text, ends, scale);
 }
 
-fn print_text(text: &[u8]) {
+fn print_views(text: &[u8], ends: &[u16])
+    requires { ⌜ Known (now text) (now ends) ⌝ }
+{
     let at = view::value_start(text);
-    print_value(text, at);
-    print_all_elements(text, at);
-    print_all_members(text, view::members_at(text, at));
+    print_value(text, ends, at);
+    print_all_elements(text, ends, at);
+    print_all_members(text, ends, view::members_at(text, ends, at));
+}
+
+// The views of a text, with a table of its ends.
+fn print_text(text: &[u8])
+    requires { ⌜ length (now text) ≤ 32768 ⌝ }
+{
+    let mut table = [0u16; 1024];
+    view::find_ends(text, &mut table);
+    print_views(text, &table);
 }
 
 fn main() {

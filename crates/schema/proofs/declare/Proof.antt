@@ -1,7 +1,7 @@
 -- `schema::declare` meets its contract.
 -- Assumes nothing.
 use Rattle.schema.proofs.Nested.{scanned-short, declared-not, declared-rows}
-use native.Mathlib.Omega.{arith}
+use Rattle.view.proofs.Known.{known-none}
 use borrow.Author.Needs.{needs}
 use Rattle.schema.proofs.declare.Statement.{statement}
 use Rattle.schema.proofs.declare.Tie as tie
@@ -12,37 +12,47 @@ scan-requires c κs = search needs
 enum-known-f : tie.Need-enum-known-f
 enum-known-f c = search needs
 
+returns : tie.Need-returns
+returns c = declared-not _ (c .before .before .before .scan .ensures) (c .before .f .given .1)
+
 enum-told : tie.Need-enum-told
 enum-told c = search needs
 
-clear-requires : tie.Need-clear-requires
-clear-requires c κs = search needs
+slice-aggregate-walk : tie.Need-slice-aggregate-walk
+slice-aggregate-walk c = search needs
 
-value-start-requires : tie.Need-value-start-requires
-value-start-requires c κs = search needs
-
-none-requires : tie.Need-none-requires
-none-requires c κs = search needs
-
-slice-aggregate-put-schema : tie.Need-slice-aggregate-put-schema
-slice-aggregate-put-schema c = search needs
-
-add-put-schema : tie.Need-add-put-schema
-add-put-schema c = search needs
-
-put-schema-requires : tie.Need-put-schema-requires
-put-schema-requires c κs =
-    record { short = scanned-short _ (c .before .before .before .before .before .before .before .before .before .before .before .before .scan .ensures) (c .before .before .before .before .before .before .before .before .before .before .enum-told .given .1); deep = omega arith }
-
-returns : tie.Need-returns
-returns c = declared-not _ (c .before .before .before .scan .ensures) (c .before .f .given .1)
+walk-requires : tie.Need-walk-requires
+walk-requires c κs = (scanned-short _ (c .before .before .before .before .before .scan .ensures) (c .before .before .before .enum-told .given .1), known-none _ 2048)
 
 same-length : tie.Need-same-length
 same-length c = search needs
 
 returns-2 : tie.Need-returns-2
-returns-2 c =
-    declared-rows _ (c .before .before .before .before .before .before .before .before .before .before .before .before .before .before .before .scan .ensures) (c .before .before .before .before .before .before .before .before .before .before .before .before .before .enum-told .given .1) (c .before .before .before .before .before .before .before .before .before .before .before .clear .ensures) (c .before .before .before .before .before .before .before .before .value-start .ensures) (c .before .before .before .before .before .before .before .none .ensures) (c .before .before .put-schema .ensures)
+returns-2 c = declared-rows _ (c .before .before .before .before .before .before .before .before .before .scan .ensures) (c .before .before .before .before .before .before .before .enum-told .given .1) (c .before .before .before .walk .ensures)
+
+slice-aggregate-walk-2 : tie.Need-slice-aggregate-walk-2
+slice-aggregate-walk-2 c = search needs
+
+walk-requires-2 : tie.Need-walk-requires-2
+walk-requires-2 c κs = (scanned-short _ (c .before .before .before .before .before .before .scan .ensures) (c .before .before .before .before .enum-told .given .1), known-none _ 8192)
+
+same-length-2 : tie.Need-same-length-2
+same-length-2 c = search needs
+
+returns-3 : tie.Need-returns-3
+returns-3 c = declared-rows _ (c .before .before .before .before .before .before .before .before .before .before .scan .ensures) (c .before .before .before .before .before .before .before .before .enum-told .given .1) (c .before .before .before .walk2 .ensures)
+
+slice-aggregate-walk-3 : tie.Need-slice-aggregate-walk-3
+slice-aggregate-walk-3 c = search needs
+
+walk-requires-3 : tie.Need-walk-requires-3
+walk-requires-3 c κs = (scanned-short _ (c .before .before .before .before .before .before .scan .ensures) (c .before .before .before .before .enum-told .given .1), known-none _ 32768)
+
+same-length-3 : tie.Need-same-length-3
+same-length-3 c = search needs
+
+returns-4 : tie.Need-returns-4
+returns-4 c = declared-rows _ (c .before .before .before .before .before .before .before .before .before .before .scan .ensures) (c .before .before .before .before .before .before .before .before .enum-told .given .1) (c .before .before .before .walk3 .ensures)
 
 pub declare-spec : {M : Type 1} → statement M
 declare-spec =
@@ -50,13 +60,17 @@ declare-spec =
     (tie.spec
     scan-requires
     enum-known-f
-    enum-told
-    clear-requires
-    value-start-requires
-    none-requires
-    slice-aggregate-put-schema
-    add-put-schema
-    put-schema-requires
     returns
+    enum-told
+    slice-aggregate-walk
+    walk-requires
     same-length
-    returns-2)
+    returns-2
+    slice-aggregate-walk-2
+    walk-requires-2
+    same-length-2
+    returns-3
+    slice-aggregate-walk-3
+    walk-requires-3
+    same-length-3
+    returns-4)

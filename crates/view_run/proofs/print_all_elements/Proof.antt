@@ -10,10 +10,10 @@ use Rattle.view_run.proofs.print_all_elements.Statement.{statement}
 use Rattle.view_run.proofs.print_all_elements.Tie as tie
 
 abbrev Inv-loop : tie.InvT-loop
-Inv-loop text at spot₀ spot = Unit {0}
+Inv-loop text ends at spot₀ spot = Unit {0}
 
 abbrev μ-loop : tie.MeasureT-loop
-μ-loop text at spot₀ spot = length (elementsAt text spot)
+μ-loop text ends at spot₀ spot = length (elementsAt text spot)
 
 first-element-requires : tie.Need-first-element-requires Inv-loop μ-loop
 first-element-requires c κs = search needs

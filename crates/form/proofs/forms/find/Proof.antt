@@ -9,10 +9,10 @@ use Rattle.form.proofs.forms.find.Statement.{statement}
 use Rattle.form.proofs.forms.find.Tie as tie
 
 abbrev Inv-loop : tie.InvT-loop
-Inv-loop text at p₀ left₀ p left = formWithin left text p ≡ formOf text at
+Inv-loop text ends at p₀ left₀ p left = formWithin left text p ≡ formOf text at
 
 abbrev μ-loop : tie.MeasureT-loop
-μ-loop text at p₀ left₀ p left = left
+μ-loop text ends at p₀ left₀ p left = left
 
 loop-holds : tie.Need-loop-holds Inv-loop μ-loop
 loop-holds c = refl

@@ -1,87 +1,90 @@
--- `form::forms::object_form` meets its contract: each test is the definition's.
+-- `form::forms::object_form` meets its contract.
 -- Assumes nothing.
-use mathlib.Core.Path.{_∙_, sym}
+use mathlib.Core.Path.{_∙_, sym, ap}
+use mathlib.Core.List.{List}
+use Prim.Native.Nat.{ℕ}
+use native.Mathlib.Omega.{arith}
 use borrow.Author.Needs.{needs}
+use Rattle.form.proofs.Words.{form-of-long}
+use Rattle.form.proofs.Written.{copied-fit}
 use Rattle.form.specs.Forms.{objectForm}
+use Rattle.view.proofs.Known.{literal-lent}
+use Rattle.view.specs.Strings.{stringAt}
 use Rattle.form.proofs.forms.object_form.Statement.{statement}
 use Rattle.form.proofs.forms.object_form.Tie as tie
 
-slice-aggregate-string-is : tie.Need-slice-aggregate-string-is
-slice-aggregate-string-is c = search needs
+literal-requires : tie.Need-literal-requires
+literal-requires c κs = search needs
 
-string-is-requires : tie.Need-string-is-requires
-string-is-requires c κs = search needs
+add-start : tie.Need-add-start
+add-start c =
+    let l = c .before .literal .ensures (c .if1 .taken) in let a = l .opens in let b = l .closes in omega arith
+
+sub-stop : tie.Need-sub-stop
+sub-stop c = search needs
+
+sub-form-of : tie.Need-sub-form-of
+sub-form-of c =
+    let l = c .before .literal .ensures (c .if1 .taken) in let a = l .opens in let b = l .closes in omega arith
+
+part-form-of-start : tie.Need-part-form-of-start
+part-form-of-start c =
+    let l = c .before .literal .ensures (c .if1 .taken) in let a = l .opens in let b = l .closes in omega arith
+
+part-form-of-end : tie.Need-part-form-of-end
+part-form-of-end c =
+    let l = c .before .literal .ensures (c .if1 .taken) in let a = l .opens in let b = l .closes in omega arith
+
+form-of-requires : tie.Need-form-of-requires
+form-of-requires c κs = search needs
 
 returns : tie.Need-returns
-unfolding objectForm
-returns c = rw (sym (c .before .string-is .ensures) ∙ c .if1 .taken)
+returns c =
+    c .form-of .ensures ∙ ap (λ (w : List ℕ). objectForm w (c .before .before .before .before .before .before .args .at) (c .before .before .before .before .before .before .args .typed)) (literal-lent (c .before .before .before .literal .ensures (c .before .before .if1 .taken)))
 
-slice-aggregate-string-is-2 : tie.Need-slice-aggregate-string-is-2
-slice-aggregate-string-is-2 c = search needs
+slice-aggregate-string-copy : tie.Need-slice-aggregate-string-copy
+slice-aggregate-string-copy c = search needs
 
-string-is-requires-2 : tie.Need-string-is-requires-2
-string-is-requires-2 c κs = search needs
+string-copy-requires : tie.Need-string-copy-requires
+string-copy-requires c κs = search needs
 
 returns-2 : tie.Need-returns-2
-unfolding objectForm
 returns-2 c =
-    rw (sym (c .before .before .before .before .string-is .ensures) ∙ c .before .before .before .if1 .left, sym (c .before .string-is2 .ensures) ∙ c .if2 .taken)
+    let e = c .before .before .string-copy .ensures .0 in sym (form-of-long (stringAt (c .before .before .before .before .before .before .before .before .args .text .now) (c .before .before .before .before .before .before .before .before .args .typed)) _ _ (omega arith))
 
-slice-aggregate-string-is-3 : tie.Need-slice-aggregate-string-is-3
-slice-aggregate-string-is-3 c = search needs
+sub-form-of-2 : tie.Need-sub-form-of-2
+sub-form-of-2 c = search needs
 
-string-is-requires-3 : tie.Need-string-is-requires-3
-string-is-requires-3 c κs = search needs
+part-form-of-start-2 : tie.Need-part-form-of-start-2
+part-form-of-start-2 c = search needs
+
+part-form-of-end-2 : tie.Need-part-form-of-end-2
+part-form-of-end-2 c = search needs
+
+form-of-requires-2 : tie.Need-form-of-requires-2
+form-of-requires-2 c κs = search needs
 
 returns-3 : tie.Need-returns-3
-unfolding objectForm
 returns-3 c =
-    rw (sym (c .before .before .before .before .before .before .before .string-is .ensures) ∙ c .before .before .before .before .before .before .if1 .left, sym (c .before .before .before .before .string-is2 .ensures) ∙ c .before .before .before .if2 .left, sym (c .before .string-is3 .ensures) ∙ c .if3 .taken)
-
-slice-aggregate-string-is-4 : tie.Need-slice-aggregate-string-is-4
-slice-aggregate-string-is-4 c = search needs
-
-string-is-requires-4 : tie.Need-string-is-requires-4
-string-is-requires-4 c κs = search needs
-
-returns-4 : tie.Need-returns-4
-unfolding objectForm
-returns-4 c =
-    rw (sym (c .before .before .before .before .before .before .before .before .before .before .string-is .ensures) ∙ c .before .before .before .before .before .before .before .before .before .if1 .left, sym (c .before .before .before .before .before .before .before .string-is2 .ensures) ∙ c .before .before .before .before .before .before .if2 .left, sym (c .before .before .before .before .string-is3 .ensures) ∙ c .before .before .before .if3 .left, sym (c .before .string-is4 .ensures) ∙ c .if4 .taken)
-
-slice-aggregate-string-is-5 : tie.Need-slice-aggregate-string-is-5
-slice-aggregate-string-is-5 c = search needs
-
-string-is-requires-5 : tie.Need-string-is-requires-5
-string-is-requires-5 c κs = search needs
-
-returns-5 : tie.Need-returns-5
-unfolding objectForm
-returns-5 c =
-    rw (sym (c .before .before .before .before .before .before .before .before .before .before .before .before .before .string-is .ensures) ∙ c .before .before .before .before .before .before .before .before .before .before .before .before .if1 .left, sym (c .before .before .before .before .before .before .before .before .before .before .string-is2 .ensures) ∙ c .before .before .before .before .before .before .before .before .before .if2 .left, sym (c .before .before .before .before .before .before .before .string-is3 .ensures) ∙ c .before .before .before .before .before .before .if3 .left, sym (c .before .before .before .before .string-is4 .ensures) ∙ c .before .before .before .if4 .left, sym (c .before .string-is5 .ensures) ∙ c .if5 .taken)
-
-returns-6 : tie.Need-returns-6
-unfolding objectForm
-returns-6 c =
-    rw (sym (c .before .before .before .before .before .before .before .before .before .before .before .before .before .string-is .ensures) ∙ c .before .before .before .before .before .before .before .before .before .before .before .before .if1 .left, sym (c .before .before .before .before .before .before .before .before .before .before .string-is2 .ensures) ∙ c .before .before .before .before .before .before .before .before .before .if2 .left, sym (c .before .before .before .before .before .before .before .string-is3 .ensures) ∙ c .before .before .before .before .before .before .if3 .left, sym (c .before .before .before .before .string-is4 .ensures) ∙ c .before .before .before .if4 .left, sym (c .before .string-is5 .ensures) ∙ c .if5 .left)
+    c .form-of2 .ensures ∙ ap (λ (w : List ℕ). objectForm w (c .before .before .before .before .before .before .before .before .before .before .before .args .at) (c .before .before .before .before .before .before .before .before .before .before .before .args .typed)) ((copied-fit (stringAt (c .before .before .before .before .before .before .before .before .before .before .before .args .text .now) (c .before .before .before .before .before .before .before .before .before .before .before .args .typed)) _ (c .before .before .before .before .before .string-copy .ensures) (omega arith)) .front)
 
 pub object-form-spec : {M : Type 1} → statement M
 object-form-spec =
     tie.close
     (tie.spec
-    slice-aggregate-string-is
-    string-is-requires
+    literal-requires
+    add-start
+    sub-stop
+    sub-form-of
+    part-form-of-start
+    part-form-of-end
+    form-of-requires
     returns
-    slice-aggregate-string-is-2
-    string-is-requires-2
+    slice-aggregate-string-copy
+    string-copy-requires
     returns-2
-    slice-aggregate-string-is-3
-    string-is-requires-3
-    returns-3
-    slice-aggregate-string-is-4
-    string-is-requires-4
-    returns-4
-    slice-aggregate-string-is-5
-    string-is-requires-5
-    returns-5
-    returns-6)
+    sub-form-of-2
+    part-form-of-start-2
+    part-form-of-end-2
+    form-of-requires-2
+    returns-3)

@@ -1,129 +1,88 @@
--- `form::forms::word_kind` meets its contract: each test is the definition's.
+-- `form::forms::word_kind` meets its contract.
 -- Assumes nothing.
-use mathlib.Core.Path.{_∙_, sym}
+use mathlib.Core.Path.{_∙_, sym, ap}
+use native.Mathlib.Omega.{arith}
 use borrow.Author.Needs.{needs}
+use Rattle.form.proofs.Words.{kind-of-long}
+use Rattle.form.proofs.Written.{copied-fit}
 use Rattle.form.specs.Forms.{wordKind}
+use Rattle.view.proofs.Known.{literal-lent}
+use Rattle.view.specs.Strings.{stringAt}
 use Rattle.form.proofs.forms.word_kind.Statement.{statement}
 use Rattle.form.proofs.forms.word_kind.Tie as tie
 
-slice-aggregate-string-is : tie.Need-slice-aggregate-string-is
-slice-aggregate-string-is c = search needs
+literal-requires : tie.Need-literal-requires
+literal-requires c κs = search needs
 
-string-is-requires : tie.Need-string-is-requires
-string-is-requires c κs = search needs
+add-start : tie.Need-add-start
+add-start c =
+    let l = c .before .literal .ensures (c .if1 .taken) in let a = l .opens in let b = l .closes in omega arith
+
+sub-stop : tie.Need-sub-stop
+sub-stop c = search needs
+
+sub-kind-of : tie.Need-sub-kind-of
+sub-kind-of c =
+    let l = c .before .literal .ensures (c .if1 .taken) in let a = l .opens in let b = l .closes in omega arith
+
+part-kind-of-start : tie.Need-part-kind-of-start
+part-kind-of-start c =
+    let l = c .before .literal .ensures (c .if1 .taken) in let a = l .opens in let b = l .closes in omega arith
+
+part-kind-of-end : tie.Need-part-kind-of-end
+part-kind-of-end c =
+    let l = c .before .literal .ensures (c .if1 .taken) in let a = l .opens in let b = l .closes in omega arith
+
+kind-of-requires : tie.Need-kind-of-requires
+kind-of-requires c κs = search needs
 
 returns : tie.Need-returns
-unfolding wordKind
-returns c = rw (sym (c .before .string-is .ensures) ∙ c .if1 .taken)
+returns c =
+    c .kind-of .ensures ∙ ap wordKind (literal-lent (c .before .before .before .literal .ensures (c .before .before .if1 .taken)))
 
-slice-aggregate-string-is-2 : tie.Need-slice-aggregate-string-is-2
-slice-aggregate-string-is-2 c = search needs
+slice-aggregate-string-copy : tie.Need-slice-aggregate-string-copy
+slice-aggregate-string-copy c = search needs
 
-string-is-requires-2 : tie.Need-string-is-requires-2
-string-is-requires-2 c κs = search needs
+string-copy-requires : tie.Need-string-copy-requires
+string-copy-requires c κs = search needs
 
 returns-2 : tie.Need-returns-2
-unfolding wordKind
 returns-2 c =
-    rw (sym (c .before .before .before .before .string-is .ensures) ∙ c .before .before .before .if1 .left, sym (c .before .string-is2 .ensures) ∙ c .if2 .taken)
+    let e = c .before .before .string-copy .ensures .0 in sym (kind-of-long (stringAt (c .before .before .before .before .before .before .before .before .args .text .now) (c .before .before .before .before .before .before .before .before .args .at)) (omega arith))
 
-slice-aggregate-string-is-3 : tie.Need-slice-aggregate-string-is-3
-slice-aggregate-string-is-3 c = search needs
+sub-kind-of-2 : tie.Need-sub-kind-of-2
+sub-kind-of-2 c = search needs
 
-string-is-requires-3 : tie.Need-string-is-requires-3
-string-is-requires-3 c κs = search needs
+part-kind-of-start-2 : tie.Need-part-kind-of-start-2
+part-kind-of-start-2 c = search needs
+
+part-kind-of-end-2 : tie.Need-part-kind-of-end-2
+part-kind-of-end-2 c = search needs
+
+kind-of-requires-2 : tie.Need-kind-of-requires-2
+kind-of-requires-2 c κs = search needs
 
 returns-3 : tie.Need-returns-3
-unfolding wordKind
 returns-3 c =
-    rw (sym (c .before .before .before .before .before .before .before .string-is .ensures) ∙ c .before .before .before .before .before .before .if1 .left, sym (c .before .before .before .before .string-is2 .ensures) ∙ c .before .before .before .if2 .left, sym (c .before .string-is3 .ensures) ∙ c .if3 .taken)
-
-slice-aggregate-string-is-4 : tie.Need-slice-aggregate-string-is-4
-slice-aggregate-string-is-4 c = search needs
-
-string-is-requires-4 : tie.Need-string-is-requires-4
-string-is-requires-4 c κs = search needs
-
-returns-4 : tie.Need-returns-4
-unfolding wordKind
-returns-4 c =
-    rw (sym (c .before .before .before .before .before .before .before .before .before .before .string-is .ensures) ∙ c .before .before .before .before .before .before .before .before .before .if1 .left, sym (c .before .before .before .before .before .before .before .string-is2 .ensures) ∙ c .before .before .before .before .before .before .if2 .left, sym (c .before .before .before .before .string-is3 .ensures) ∙ c .before .before .before .if3 .left, sym (c .before .string-is4 .ensures) ∙ c .if4 .taken)
-
-slice-aggregate-string-is-5 : tie.Need-slice-aggregate-string-is-5
-slice-aggregate-string-is-5 c = search needs
-
-string-is-requires-5 : tie.Need-string-is-requires-5
-string-is-requires-5 c κs = search needs
-
-returns-5 : tie.Need-returns-5
-unfolding wordKind
-returns-5 c =
-    rw (sym (c .before .before .before .before .before .before .before .before .before .before .before .before .before .string-is .ensures) ∙ c .before .before .before .before .before .before .before .before .before .before .before .before .if1 .left, sym (c .before .before .before .before .before .before .before .before .before .before .string-is2 .ensures) ∙ c .before .before .before .before .before .before .before .before .before .if2 .left, sym (c .before .before .before .before .before .before .before .string-is3 .ensures) ∙ c .before .before .before .before .before .before .if3 .left, sym (c .before .before .before .before .string-is4 .ensures) ∙ c .before .before .before .if4 .left, sym (c .before .string-is5 .ensures) ∙ c .if5 .taken)
-
-slice-aggregate-string-is-6 : tie.Need-slice-aggregate-string-is-6
-slice-aggregate-string-is-6 c = search needs
-
-string-is-requires-6 : tie.Need-string-is-requires-6
-string-is-requires-6 c κs = search needs
-
-returns-6 : tie.Need-returns-6
-unfolding wordKind
-returns-6 c =
-    rw (sym (c .before .before .before .before .before .before .before .before .before .before .before .before .before .before .before .before .string-is .ensures) ∙ c .before .before .before .before .before .before .before .before .before .before .before .before .before .before .before .if1 .left, sym (c .before .before .before .before .before .before .before .before .before .before .before .before .before .string-is2 .ensures) ∙ c .before .before .before .before .before .before .before .before .before .before .before .before .if2 .left, sym (c .before .before .before .before .before .before .before .before .before .before .string-is3 .ensures) ∙ c .before .before .before .before .before .before .before .before .before .if3 .left, sym (c .before .before .before .before .before .before .before .string-is4 .ensures) ∙ c .before .before .before .before .before .before .if4 .left, sym (c .before .before .before .before .string-is5 .ensures) ∙ c .before .before .before .if5 .left, sym (c .before .string-is6 .ensures) ∙ c .if6 .taken)
-
-slice-aggregate-string-is-7 : tie.Need-slice-aggregate-string-is-7
-slice-aggregate-string-is-7 c = search needs
-
-string-is-requires-7 : tie.Need-string-is-requires-7
-string-is-requires-7 c κs = search needs
-
-returns-7 : tie.Need-returns-7
-unfolding wordKind
-returns-7 c =
-    rw (sym (c .before .before .before .before .before .before .before .before .before .before .before .before .before .before .before .before .before .before .before .string-is .ensures) ∙ c .before .before .before .before .before .before .before .before .before .before .before .before .before .before .before .before .before .before .if1 .left, sym (c .before .before .before .before .before .before .before .before .before .before .before .before .before .before .before .before .string-is2 .ensures) ∙ c .before .before .before .before .before .before .before .before .before .before .before .before .before .before .before .if2 .left, sym (c .before .before .before .before .before .before .before .before .before .before .before .before .before .string-is3 .ensures) ∙ c .before .before .before .before .before .before .before .before .before .before .before .before .if3 .left, sym (c .before .before .before .before .before .before .before .before .before .before .string-is4 .ensures) ∙ c .before .before .before .before .before .before .before .before .before .if4 .left, sym (c .before .before .before .before .before .before .before .string-is5 .ensures) ∙ c .before .before .before .before .before .before .if5 .left, sym (c .before .before .before .before .string-is6 .ensures) ∙ c .before .before .before .if6 .left, sym (c .before .string-is7 .ensures) ∙ c .if7 .taken)
-
-slice-aggregate-string-is-8 : tie.Need-slice-aggregate-string-is-8
-slice-aggregate-string-is-8 c = search needs
-
-string-is-requires-8 : tie.Need-string-is-requires-8
-string-is-requires-8 c κs = search needs
-
-returns-8 : tie.Need-returns-8
-unfolding wordKind
-returns-8 c =
-    rw (sym (c .before .before .before .before .before .before .before .before .before .before .before .before .before .before .before .before .before .before .before .before .before .before .string-is .ensures) ∙ c .before .before .before .before .before .before .before .before .before .before .before .before .before .before .before .before .before .before .before .before .before .if1 .left, sym (c .before .before .before .before .before .before .before .before .before .before .before .before .before .before .before .before .before .before .before .string-is2 .ensures) ∙ c .before .before .before .before .before .before .before .before .before .before .before .before .before .before .before .before .before .before .if2 .left, sym (c .before .before .before .before .before .before .before .before .before .before .before .before .before .before .before .before .string-is3 .ensures) ∙ c .before .before .before .before .before .before .before .before .before .before .before .before .before .before .before .if3 .left, sym (c .before .before .before .before .before .before .before .before .before .before .before .before .before .string-is4 .ensures) ∙ c .before .before .before .before .before .before .before .before .before .before .before .before .if4 .left, sym (c .before .before .before .before .before .before .before .before .before .before .string-is5 .ensures) ∙ c .before .before .before .before .before .before .before .before .before .if5 .left, sym (c .before .before .before .before .before .before .before .string-is6 .ensures) ∙ c .before .before .before .before .before .before .if6 .left, sym (c .before .before .before .before .string-is7 .ensures) ∙ c .before .before .before .if7 .left, sym (c .before .string-is8 .ensures) ∙ c .if8 .taken)
-
-returns-9 : tie.Need-returns-9
-unfolding wordKind
-returns-9 c =
-    rw (sym (c .before .before .before .before .before .before .before .before .before .before .before .before .before .before .before .before .before .before .before .before .before .before .string-is .ensures) ∙ c .before .before .before .before .before .before .before .before .before .before .before .before .before .before .before .before .before .before .before .before .before .if1 .left, sym (c .before .before .before .before .before .before .before .before .before .before .before .before .before .before .before .before .before .before .before .string-is2 .ensures) ∙ c .before .before .before .before .before .before .before .before .before .before .before .before .before .before .before .before .before .before .if2 .left, sym (c .before .before .before .before .before .before .before .before .before .before .before .before .before .before .before .before .string-is3 .ensures) ∙ c .before .before .before .before .before .before .before .before .before .before .before .before .before .before .before .if3 .left, sym (c .before .before .before .before .before .before .before .before .before .before .before .before .before .string-is4 .ensures) ∙ c .before .before .before .before .before .before .before .before .before .before .before .before .if4 .left, sym (c .before .before .before .before .before .before .before .before .before .before .string-is5 .ensures) ∙ c .before .before .before .before .before .before .before .before .before .if5 .left, sym (c .before .before .before .before .before .before .before .string-is6 .ensures) ∙ c .before .before .before .before .before .before .if6 .left, sym (c .before .before .before .before .string-is7 .ensures) ∙ c .before .before .before .if7 .left, sym (c .before .string-is8 .ensures) ∙ c .if8 .left)
+    c .kind-of2 .ensures ∙ ap wordKind ((copied-fit (stringAt (c .before .before .before .before .before .before .before .before .before .before .before .args .text .now) (c .before .before .before .before .before .before .before .before .before .before .before .args .at)) _ (c .before .before .before .before .before .string-copy .ensures) (omega arith)) .front)
 
 pub word-kind-spec : {M : Type 1} → statement M
 word-kind-spec =
     tie.close
     (tie.spec
-    slice-aggregate-string-is
-    string-is-requires
+    literal-requires
+    add-start
+    sub-stop
+    sub-kind-of
+    part-kind-of-start
+    part-kind-of-end
+    kind-of-requires
     returns
-    slice-aggregate-string-is-2
-    string-is-requires-2
+    slice-aggregate-string-copy
+    string-copy-requires
     returns-2
-    slice-aggregate-string-is-3
-    string-is-requires-3
-    returns-3
-    slice-aggregate-string-is-4
-    string-is-requires-4
-    returns-4
-    slice-aggregate-string-is-5
-    string-is-requires-5
-    returns-5
-    slice-aggregate-string-is-6
-    string-is-requires-6
-    returns-6
-    slice-aggregate-string-is-7
-    string-is-requires-7
-    returns-7
-    slice-aggregate-string-is-8
-    string-is-requires-8
-    returns-8
-    returns-9)
+    sub-kind-of-2
+    part-kind-of-start-2
+    part-kind-of-end-2
+    kind-of-requires-2
+    returns-3)

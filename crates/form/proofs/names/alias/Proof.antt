@@ -18,7 +18,7 @@ part-is-name-start c = search needs
 
 part-is-name-end : tie.Need-part-is-name-end
 part-is-name-end c =
-    let h = (copied (c .before .before .before .before .before .before .args .text .now) (c .before .before .before .before .before .before .args .at) (c .before .before .before .before .before .before .args .word .now) (c .before .before .string-copy .ensures) (c .before .before .before .before .before .before .pre) (omega arith)) .room in omega arith
+    let h = (copied (c .before .before .before .before .before .before .before .args .text .now) (c .before .before .before .before .before .before .before .args .at) (c .before .before .before .before .before .before .before .args .word .now) (c .before .before .string-copy .ensures) (c .before .before .before .before .before .before .before .pre .0) (omega arith)) .room in omega arith
 
 is-name-requires : tie.Need-is-name-requires
 is-name-requires c κs = search needs
@@ -28,7 +28,7 @@ not-a-name-requires c κs = search needs
 
 returns : tie.Need-returns
 returns c =
-    alias-not (c .before .before .before .before .before .before .before .before .before .before .args .text .now) (c .before .before .before .before .before .before .before .before .before .before .args .namespace .now) (c .before .before .before .before .before .before .before .before .before .before .args .at) (c .before .before .before .before .before .before .before .before .before .before .args .full .now) ((copied (c .before .before .before .before .before .before .before .before .before .before .args .text .now) (c .before .before .before .before .before .before .before .before .before .before .args .at) (c .before .before .before .before .before .before .before .before .before .before .args .word .now) (c .before .before .before .before .before .before .string-copy .ensures) (c .before .before .before .before .before .before .before .before .before .before .pre) (omega arith)) .front) (c .before .before .is-name .ensures) (not-true _ (c .before .if1 .taken)) (c .not-a-name .ensures)
+    alias-not (c .before .before .before .before .before .before .before .before .before .before .before .args .text .now) (c .before .before .before .before .before .before .before .before .before .before .before .args .namespace .now) (c .before .before .before .before .before .before .before .before .before .before .before .args .at) (c .before .before .before .before .before .before .before .before .before .before .before .args .full .now) ((copied (c .before .before .before .before .before .before .before .before .before .before .before .args .text .now) (c .before .before .before .before .before .before .before .before .before .before .before .args .at) (c .before .before .before .before .before .before .before .before .before .before .before .args .word .now) (c .before .before .before .before .before .before .string-copy .ensures) (c .before .before .before .before .before .before .before .before .before .before .before .pre .0) (omega arith)) .front) (c .before .before .is-name .ensures) (not-true _ (c .before .if1 .taken)) (c .not-a-name .ensures)
 
 sub-given : tie.Need-sub-given
 sub-given c = search needs
@@ -38,14 +38,14 @@ part-given-start c = search needs
 
 part-given-end : tie.Need-part-given-end
 part-given-end c =
-    let h = (copied (c .before .before .before .before .before .before .before .before .before .args .text .now) (c .before .before .before .before .before .before .before .before .before .args .at) (c .before .before .before .before .before .before .before .before .before .args .word .now) (c .before .before .before .before .before .string-copy .ensures) (c .before .before .before .before .before .before .before .before .before .pre) (omega arith)) .room in omega arith
+    let h = (copied (c .before .before .before .before .before .before .before .before .before .before .args .text .now) (c .before .before .before .before .before .before .before .before .before .before .args .at) (c .before .before .before .before .before .before .before .before .before .before .args .word .now) (c .before .before .before .before .before .string-copy .ensures) (c .before .before .before .before .before .before .before .before .before .before .pre .0) (omega arith)) .room in omega arith
 
 given-requires : tie.Need-given-requires
 given-requires c κs = search needs
 
 returns-2 : tie.Need-returns-2
 returns-2 c =
-    alias-kept (c .before .before .before .before .before .before .before .before .before .before .before .before .args .text .now) (c .before .before .before .before .before .before .before .before .before .before .before .before .args .namespace .now) (c .before .before .before .before .before .before .before .before .before .before .before .before .args .at) (c .before .before .before .before .before .before .before .before .before .before .before .before .args .full .now) ((copied (c .before .before .before .before .before .before .before .before .before .before .before .before .args .text .now) (c .before .before .before .before .before .before .before .before .before .before .before .before .args .at) (c .before .before .before .before .before .before .before .before .before .before .before .before .args .word .now) (c .before .before .before .before .before .before .before .before .string-copy .ensures) (c .before .before .before .before .before .before .before .before .before .before .before .before .pre) (omega arith)) .front) (c .before .before .before .before .is-name .ensures) (not-false _ (c .before .before .before .if1 .left)) (c .given .ensures)
+    alias-kept (c .before .before .before .before .before .before .before .before .before .before .before .before .before .args .text .now) (c .before .before .before .before .before .before .before .before .before .before .before .before .before .args .namespace .now) (c .before .before .before .before .before .before .before .before .before .before .before .before .before .args .at) (c .before .before .before .before .before .before .before .before .before .before .before .before .before .args .full .now) ((copied (c .before .before .before .before .before .before .before .before .before .before .before .before .before .args .text .now) (c .before .before .before .before .before .before .before .before .before .before .before .before .before .args .at) (c .before .before .before .before .before .before .before .before .before .before .before .before .before .args .word .now) (c .before .before .before .before .before .before .before .before .string-copy .ensures) (c .before .before .before .before .before .before .before .before .before .before .before .before .before .pre .0) (omega arith)) .front) (c .before .before .before .before .is-name .ensures) (not-false _ (c .before .before .before .if1 .left)) (c .given .ensures)
 
 pub alias-spec : {M : Type 1} → statement M
 alias-spec =

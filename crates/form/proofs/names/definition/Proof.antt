@@ -1,9 +1,9 @@
--- `form::names::definition` meets its contract: a law for each of its five ways out.
+-- `form::names::definition` meets its contract: a law for each of its four ways out.
 -- Assumes nothing.
 use native.Mathlib.Omega.{arith}
 use borrow.Author.Needs.{needs}
 use borrow.Author.Tests.{not-false, not-true}
-use Rattle.form.proofs.Written.{copied, definition-dot, definition-enclosed, definition-not, definition-space, definition-space-not}
+use Rattle.form.proofs.Written.{copied, definition-dot, definition-enclosed, definition-not, definition-space, spaced-plain}
 use Rattle.form.proofs.names.definition.Statement.{statement}
 use Rattle.form.proofs.names.definition.Tie as tie
 
@@ -18,7 +18,7 @@ part-is-name-start c = search needs
 
 part-is-name-end : tie.Need-part-is-name-end
 part-is-name-end c =
-    let h = (copied (c .before .before .before .before .before .before .args .text .now) (c .before .before .before .before .before .before .args .at) (c .before .before .before .before .before .before .args .word .now) (c .before .before .string-copy .ensures) (c .before .before .before .before .before .before .pre) (omega arith)) .room in omega arith
+    let h = (copied (c .before .before .before .before .before .before .before .args .text .now) (c .before .before .before .before .before .before .before .args .at) (c .before .before .before .before .before .before .before .args .word .now) (c .before .before .string-copy .ensures) (c .before .before .before .before .before .before .before .pre .0) (omega arith)) .room in omega arith
 
 is-name-requires : tie.Need-is-name-requires
 is-name-requires c κs = search needs
@@ -28,7 +28,7 @@ not-a-name-requires c κs = search needs
 
 returns : tie.Need-returns
 returns c =
-    definition-not (c .before .before .before .before .before .before .before .before .before .before .args .text .now) (c .before .before .before .before .before .before .before .before .before .before .args .enclosing .now) (c .before .before .before .before .before .before .before .before .before .before .args .members) (c .before .before .before .before .before .before .before .before .before .before .args .at) (c .before .before .before .before .before .before .before .before .before .before .args .full .now) ((copied (c .before .before .before .before .before .before .before .before .before .before .args .text .now) (c .before .before .before .before .before .before .before .before .before .before .args .at) (c .before .before .before .before .before .before .before .before .before .before .args .word .now) (c .before .before .before .before .before .before .string-copy .ensures) (c .before .before .before .before .before .before .before .before .before .before .pre) (omega arith)) .front) (c .before .before .is-name .ensures) (not-true _ (c .before .if1 .taken)) (c .not-a-name .ensures)
+    definition-not (c .before .before .before .before .before .before .before .before .before .before .before .args .text .now) (c .before .before .before .before .before .before .before .before .before .before .before .args .enclosing .now) (c .before .before .before .before .before .before .before .before .before .before .before .args .members) (c .before .before .before .before .before .before .before .before .before .before .before .args .at) (c .before .before .before .before .before .before .before .before .before .before .before .args .full .now) ((copied (c .before .before .before .before .before .before .before .before .before .before .before .args .text .now) (c .before .before .before .before .before .before .before .before .before .before .before .args .at) (c .before .before .before .before .before .before .before .before .before .before .before .args .word .now) (c .before .before .before .before .before .before .string-copy .ensures) (c .before .before .before .before .before .before .before .before .before .before .before .pre .0) (omega arith)) .front) (c .before .before .is-name .ensures) (not-true _ (c .before .if1 .taken)) (c .not-a-name .ensures)
 
 sub-has-dot : tie.Need-sub-has-dot
 sub-has-dot c = search needs
@@ -38,7 +38,7 @@ part-has-dot-start c = search needs
 
 part-has-dot-end : tie.Need-part-has-dot-end
 part-has-dot-end c =
-    let h = (copied (c .before .before .before .before .before .before .before .before .before .args .text .now) (c .before .before .before .before .before .before .before .before .before .args .at) (c .before .before .before .before .before .before .before .before .before .args .word .now) (c .before .before .before .before .before .string-copy .ensures) (c .before .before .before .before .before .before .before .before .before .pre) (omega arith)) .room in omega arith
+    let h = (copied (c .before .before .before .before .before .before .before .before .before .before .args .text .now) (c .before .before .before .before .before .before .before .before .before .before .args .at) (c .before .before .before .before .before .before .before .before .before .before .args .word .now) (c .before .before .before .before .before .string-copy .ensures) (c .before .before .before .before .before .before .before .before .before .before .pre .0) (omega arith)) .room in omega arith
 
 has-dot-requires : tie.Need-has-dot-requires
 has-dot-requires c κs = search needs
@@ -51,14 +51,14 @@ part-given-start c = search needs
 
 part-given-end : tie.Need-part-given-end
 part-given-end c =
-    let h = (copied (c .before .before .before .before .before .before .before .before .before .before .before .before .args .text .now) (c .before .before .before .before .before .before .before .before .before .before .before .before .args .at) (c .before .before .before .before .before .before .before .before .before .before .before .before .args .word .now) (c .before .before .before .before .before .before .before .before .string-copy .ensures) (c .before .before .before .before .before .before .before .before .before .before .before .before .pre) (omega arith)) .room in omega arith
+    let h = (copied (c .before .before .before .before .before .before .before .before .before .before .before .before .before .args .text .now) (c .before .before .before .before .before .before .before .before .before .before .before .before .before .args .at) (c .before .before .before .before .before .before .before .before .before .before .before .before .before .args .word .now) (c .before .before .before .before .before .before .before .before .string-copy .ensures) (c .before .before .before .before .before .before .before .before .before .before .before .before .before .pre .0) (omega arith)) .room in omega arith
 
 given-requires : tie.Need-given-requires
 given-requires c κs = search needs
 
 returns-2 : tie.Need-returns-2
 returns-2 c =
-    definition-dot (c .before .before .before .before .before .before .before .before .before .before .before .before .before .before .before .args .text .now) (c .before .before .before .before .before .before .before .before .before .before .before .before .before .before .before .args .enclosing .now) (c .before .before .before .before .before .before .before .before .before .before .before .before .before .before .before .args .members) (c .before .before .before .before .before .before .before .before .before .before .before .before .before .before .before .args .at) (c .before .before .before .before .before .before .before .before .before .before .before .before .before .before .before .args .full .now) ((copied (c .before .before .before .before .before .before .before .before .before .before .before .before .before .before .before .args .text .now) (c .before .before .before .before .before .before .before .before .before .before .before .before .before .before .before .args .at) (c .before .before .before .before .before .before .before .before .before .before .before .before .before .before .before .args .word .now) (c .before .before .before .before .before .before .before .before .before .before .before .string-copy .ensures) (c .before .before .before .before .before .before .before .before .before .before .before .before .before .before .before .pre) (omega arith)) .front) (c .before .before .before .before .before .before .before .is-name .ensures) (not-false _ (c .before .before .before .before .before .before .if1 .left)) (c .before .before .before .before .has-dot .ensures) (c .before .before .before .if2 .taken) (c .given .ensures)
+    definition-dot (c .before .before .before .before .before .before .before .before .before .before .before .before .before .before .before .before .args .text .now) (c .before .before .before .before .before .before .before .before .before .before .before .before .before .before .before .before .args .enclosing .now) (c .before .before .before .before .before .before .before .before .before .before .before .before .before .before .before .before .args .members) (c .before .before .before .before .before .before .before .before .before .before .before .before .before .before .before .before .args .at) (c .before .before .before .before .before .before .before .before .before .before .before .before .before .before .before .before .args .full .now) ((copied (c .before .before .before .before .before .before .before .before .before .before .before .before .before .before .before .before .args .text .now) (c .before .before .before .before .before .before .before .before .before .before .before .before .before .before .before .before .args .at) (c .before .before .before .before .before .before .before .before .before .before .before .before .before .before .before .before .args .word .now) (c .before .before .before .before .before .before .before .before .before .before .before .string-copy .ensures) (c .before .before .before .before .before .before .before .before .before .before .before .before .before .before .before .before .pre .0) (omega arith)) .front) (c .before .before .before .before .before .before .before .is-name .ensures) (not-false _ (c .before .before .before .before .before .before .if1 .left)) (c .before .before .before .before .has-dot .ensures) (c .before .before .before .if2 .taken) (c .given .ensures)
 
 as-text-requires : tie.Need-as-text-requires
 as-text-requires c κs = search needs
@@ -77,64 +77,22 @@ part-given-start-2 c = search needs
 
 part-given-end-2 : tie.Need-part-given-end-2
 part-given-end-2 c =
-    let h = (copied (c .before .before .before .before .before .before .before .before .before .before .before .before .before .before .before .args .text .now) (c .before .before .before .before .before .before .before .before .before .before .before .before .before .before .before .args .at) (c .before .before .before .before .before .before .before .before .before .before .before .before .before .before .before .args .word .now) (c .before .before .before .before .before .before .before .before .before .before .before .string-copy .ensures) (c .before .before .before .before .before .before .before .before .before .before .before .before .before .before .before .pre) (omega arith)) .room in omega arith
+    let h = (copied (c .before .before .before .before .before .before .before .before .before .before .before .before .before .before .before .before .args .text .now) (c .before .before .before .before .before .before .before .before .before .before .before .before .before .before .before .before .args .at) (c .before .before .before .before .before .before .before .before .before .before .before .before .before .before .before .before .args .word .now) (c .before .before .before .before .before .before .before .before .before .before .before .string-copy .ensures) (c .before .before .before .before .before .before .before .before .before .before .before .before .before .before .before .before .pre .0) (omega arith)) .room in omega arith
 
 given-requires-2 : tie.Need-given-requires-2
 given-requires-2 c κs = search needs
 
 returns-3 : tie.Need-returns-3
 returns-3 c =
-    definition-enclosed (c .before .before .before .before .before .before .before .before .before .before .before .before .before .before .before .before .before .before .args .text .now) (c .before .before .before .before .before .before .before .before .before .before .before .before .before .before .before .before .before .before .args .enclosing .now) (c .before .before .before .before .before .before .before .before .before .before .before .before .before .before .before .before .before .before .args .members) (c .before .before .before .before .before .before .before .before .before .before .before .before .before .before .before .before .before .before .args .at) (c .before .before .before .before .before .before .before .before .before .before .before .before .before .before .before .before .before .before .args .full .now) ((copied (c .before .before .before .before .before .before .before .before .before .before .before .before .before .before .before .before .before .before .args .text .now) (c .before .before .before .before .before .before .before .before .before .before .before .before .before .before .before .before .before .before .args .at) (c .before .before .before .before .before .before .before .before .before .before .before .before .before .before .before .before .before .before .args .word .now) (c .before .before .before .before .before .before .before .before .before .before .before .before .before .before .string-copy .ensures) (c .before .before .before .before .before .before .before .before .before .before .before .before .before .before .before .before .before .before .pre) (omega arith)) .front) (c .before .before .before .before .before .before .before .before .before .before .is-name .ensures) (not-false _ (c .before .before .before .before .before .before .before .before .before .if1 .left)) (c .before .before .before .before .before .before .before .has-dot .ensures) (c .before .before .before .before .before .before .if2 .left) (c .before .before .before .before .before .as-text .ensures) (c .before .before .before .enum-told .given .1) (c .given2 .ensures)
+    definition-enclosed (c .before .before .before .before .before .before .before .before .before .before .before .before .before .before .before .before .before .before .before .args .text .now) (c .before .before .before .before .before .before .before .before .before .before .before .before .before .before .before .before .before .before .before .args .enclosing .now) (c .before .before .before .before .before .before .before .before .before .before .before .before .before .before .before .before .before .before .before .args .members) (c .before .before .before .before .before .before .before .before .before .before .before .before .before .before .before .before .before .before .before .args .at) (c .before .before .before .before .before .before .before .before .before .before .before .before .before .before .before .before .before .before .before .args .full .now) ((copied (c .before .before .before .before .before .before .before .before .before .before .before .before .before .before .before .before .before .before .before .args .text .now) (c .before .before .before .before .before .before .before .before .before .before .before .before .before .before .before .before .before .before .before .args .at) (c .before .before .before .before .before .before .before .before .before .before .before .before .before .before .before .before .before .before .before .args .word .now) (c .before .before .before .before .before .before .before .before .before .before .before .before .before .before .string-copy .ensures) (c .before .before .before .before .before .before .before .before .before .before .before .before .before .before .before .before .before .before .before .pre .0) (omega arith)) .front) (c .before .before .before .before .before .before .before .before .before .before .is-name .ensures) (not-false _ (c .before .before .before .before .before .before .before .before .before .if1 .left)) (c .before .before .before .before .before .before .before .has-dot .ensures) (c .before .before .before .before .before .before .if2 .left) (c .before .before .before .before .before .as-text .ensures) (c .before .before .before .enum-told .given .1) (c .given2 .ensures)
 
-string-copy-requires-2 : tie.Need-string-copy-requires-2
-string-copy-requires-2 c κs = search needs
-
-sub-is-namespace : tie.Need-sub-is-namespace
-sub-is-namespace c = search needs
-
-part-is-namespace-start : tie.Need-part-is-namespace-start
-part-is-namespace-start c = search needs
-
-part-is-namespace-end : tie.Need-part-is-namespace-end
-part-is-namespace-end c =
-    let h = (copied (c .before .before .before .before .before .before .before .before .before .before .before .before .before .before .before .before .before .before .before .before .args .text .now) (c .before .before .before .before .before .q .given .0 .0) (c .before .before .before .before .before .before .before .before .before .before .before .before .before .before .before .before .before .before .before .before .args .space .now) (c .before .before .string-copy2 .ensures) (c .before .before .before .before .before .before .before .before .before .before .before .before .before .before .before .before .before .before .before .before .pre) (omega arith)) .room in omega arith
-
-is-namespace-requires : tie.Need-is-namespace-requires
-is-namespace-requires c κs = search needs
-
-not-a-name-requires-2 : tie.Need-not-a-name-requires-2
-not-a-name-requires-2 c κs = search needs
+in-namespace-requires : tie.Need-in-namespace-requires
+in-namespace-requires c κs =
+    let h = (copied (c .before .before .before .before .before .before .before .before .before .before .before .before .before .before .before .before .before .before .before .args .text .now) (c .before .before .before .before .before .before .before .before .before .before .before .before .before .before .before .before .before .before .before .args .at) (c .before .before .before .before .before .before .before .before .before .before .before .before .before .before .before .before .before .before .before .args .word .now) (c .before .before .before .before .before .before .before .before .before .before .before .before .before .before .string-copy .ensures) (c .before .before .before .before .before .before .before .before .before .before .before .before .before .before .before .before .before .before .before .pre .0) (omega arith)) .room in (c .before .before .before .before .before .before .before .before .before .before .before .before .before .before .before .before .before .before .before .pre .0, c .before .before .before .before .before .before .before .before .before .before .before .before .before .before .before .before .before .before .before .pre .1, omega arith, spaced-plain _ _ (c .before .before .before .before .before .before .before .has-dot .ensures) (c .before .before .before .before .before .before .if2 .left))
 
 returns-4 : tie.Need-returns-4
 returns-4 c =
-    definition-space-not (c .before .before .before .before .before .before .before .before .before .before .before .before .before .before .before .before .before .before .before .before .before .before .before .before .args .text .now) (c .before .before .before .before .before .before .before .before .before .before .before .before .before .before .before .before .before .before .before .before .before .before .before .before .args .enclosing .now) (c .before .before .before .before .before .before .before .before .before .before .before .before .before .before .before .before .before .before .before .before .before .before .before .before .args .members) (c .before .before .before .before .before .before .before .before .before .before .before .before .before .before .before .before .before .before .before .before .before .before .before .before .args .at) (c .before .before .before .before .before .before .before .before .before .before .before .before .before .before .before .before .before .before .before .before .before .before .before .before .args .full .now) ((copied (c .before .before .before .before .before .before .before .before .before .before .before .before .before .before .before .before .before .before .before .before .before .before .before .before .args .text .now) (c .before .before .before .before .before .before .before .before .before .before .before .before .before .before .before .before .before .before .before .before .before .before .before .before .args .at) (c .before .before .before .before .before .before .before .before .before .before .before .before .before .before .before .before .before .before .before .before .before .before .before .before .args .word .now) (c .before .before .before .before .before .before .before .before .before .before .before .before .before .before .before .before .before .before .before .before .string-copy .ensures) (c .before .before .before .before .before .before .before .before .before .before .before .before .before .before .before .before .before .before .before .before .before .before .before .before .pre) (omega arith)) .front) (c .before .before .before .before .before .before .before .before .before .before .before .before .before .before .before .before .is-name .ensures) (not-false _ (c .before .before .before .before .before .before .before .before .before .before .before .before .before .before .before .if1 .left)) (c .before .before .before .before .before .before .before .before .before .before .before .before .before .has-dot .ensures) (c .before .before .before .before .before .before .before .before .before .before .before .before .if2 .left) (c .before .before .before .before .before .before .before .before .before .before .before .as-text .ensures) (c .before .before .before .before .before .before .before .before .before .q .given .1) ((copied (c .before .before .before .before .before .before .before .before .before .before .before .before .before .before .before .before .before .before .before .before .before .before .before .before .args .text .now) (c .before .before .before .before .before .before .before .before .before .q .given .0 .0) (c .before .before .before .before .before .before .before .before .before .before .before .before .before .before .before .before .before .before .before .before .before .before .before .before .args .space .now) (c .before .before .before .before .before .before .string-copy2 .ensures) (c .before .before .before .before .before .before .before .before .before .before .before .before .before .before .before .before .before .before .before .before .before .before .before .before .pre) (omega arith)) .front) (c .before .before .is-namespace .ensures) (not-true _ (c .before .if3 .taken)) (c .not-a-name2 .ensures)
-
-sub-given-3 : tie.Need-sub-given-3
-sub-given-3 c = search needs
-
-part-given-start-3 : tie.Need-part-given-start-3
-part-given-start-3 c = search needs
-
-part-given-end-3 : tie.Need-part-given-end-3
-part-given-end-3 c =
-    let h = (copied (c .before .before .before .before .before .before .before .before .before .before .before .before .before .before .before .before .before .before .before .before .before .before .before .args .text .now) (c .before .before .before .before .before .before .before .before .q .given .0 .0) (c .before .before .before .before .before .before .before .before .before .before .before .before .before .before .before .before .before .before .before .before .before .before .before .args .space .now) (c .before .before .before .before .before .string-copy2 .ensures) (c .before .before .before .before .before .before .before .before .before .before .before .before .before .before .before .before .before .before .before .before .before .before .before .pre) (omega arith)) .room in omega arith
-
-sub-given-4 : tie.Need-sub-given-4
-sub-given-4 c = search needs
-
-part-given-start-4 : tie.Need-part-given-start-4
-part-given-start-4 c = search needs
-
-part-given-end-4 : tie.Need-part-given-end-4
-part-given-end-4 c =
-    let h = (copied (c .before .before .before .before .before .before .before .before .before .before .before .before .before .before .before .before .before .before .before .before .before .before .before .before .args .text .now) (c .before .before .before .before .before .before .before .before .before .before .before .before .before .before .before .before .before .before .before .before .before .before .before .before .args .at) (c .before .before .before .before .before .before .before .before .before .before .before .before .before .before .before .before .before .before .before .before .before .before .before .before .args .word .now) (c .before .before .before .before .before .before .before .before .before .before .before .before .before .before .before .before .before .before .before .before .string-copy .ensures) (c .before .before .before .before .before .before .before .before .before .before .before .before .before .before .before .before .before .before .before .before .before .before .before .before .pre) (omega arith)) .room in omega arith
-
-given-requires-3 : tie.Need-given-requires-3
-given-requires-3 c κs = search needs
-
-returns-5 : tie.Need-returns-5
-returns-5 c =
-    definition-space (c .before .before .before .before .before .before .before .before .before .before .before .before .before .before .before .before .before .before .before .before .before .before .before .before .before .before .before .args .text .now) (c .before .before .before .before .before .before .before .before .before .before .before .before .before .before .before .before .before .before .before .before .before .before .before .before .before .before .before .args .enclosing .now) (c .before .before .before .before .before .before .before .before .before .before .before .before .before .before .before .before .before .before .before .before .before .before .before .before .before .before .before .args .members) (c .before .before .before .before .before .before .before .before .before .before .before .before .before .before .before .before .before .before .before .before .before .before .before .before .before .before .before .args .at) (c .before .before .before .before .before .before .before .before .before .before .before .before .before .before .before .before .before .before .before .before .before .before .before .before .before .before .before .args .full .now) ((copied (c .before .before .before .before .before .before .before .before .before .before .before .before .before .before .before .before .before .before .before .before .before .before .before .before .before .before .before .args .text .now) (c .before .before .before .before .before .before .before .before .before .before .before .before .before .before .before .before .before .before .before .before .before .before .before .before .before .before .before .args .at) (c .before .before .before .before .before .before .before .before .before .before .before .before .before .before .before .before .before .before .before .before .before .before .before .before .before .before .before .args .word .now) (c .before .before .before .before .before .before .before .before .before .before .before .before .before .before .before .before .before .before .before .before .before .before .before .string-copy .ensures) (c .before .before .before .before .before .before .before .before .before .before .before .before .before .before .before .before .before .before .before .before .before .before .before .before .before .before .before .pre) (omega arith)) .front) (c .before .before .before .before .before .before .before .before .before .before .before .before .before .before .before .before .before .before .before .is-name .ensures) (not-false _ (c .before .before .before .before .before .before .before .before .before .before .before .before .before .before .before .before .before .before .if1 .left)) (c .before .before .before .before .before .before .before .before .before .before .before .before .before .before .before .before .has-dot .ensures) (c .before .before .before .before .before .before .before .before .before .before .before .before .before .before .before .if2 .left) (c .before .before .before .before .before .before .before .before .before .before .before .before .before .before .as-text .ensures) (c .before .before .before .before .before .before .before .before .before .before .before .before .q .given .1) ((copied (c .before .before .before .before .before .before .before .before .before .before .before .before .before .before .before .before .before .before .before .before .before .before .before .before .before .before .before .args .text .now) (c .before .before .before .before .before .before .before .before .before .before .before .before .q .given .0 .0) (c .before .before .before .before .before .before .before .before .before .before .before .before .before .before .before .before .before .before .before .before .before .before .before .before .before .before .before .args .space .now) (c .before .before .before .before .before .before .before .before .before .string-copy2 .ensures) (c .before .before .before .before .before .before .before .before .before .before .before .before .before .before .before .before .before .before .before .before .before .before .before .before .before .before .before .pre) (omega arith)) .front) (c .before .before .before .before .before .is-namespace .ensures) (not-false _ (c .before .before .before .before .if3 .left)) (c .given3 .ensures)
+    definition-space (c .before .before .before .before .before .before .before .before .before .before .before .before .before .before .before .before .before .before .before .before .args .text .now) (c .before .before .before .before .before .before .before .before .before .before .before .before .before .before .before .before .before .before .before .before .args .enclosing .now) (c .before .before .before .before .before .before .before .before .before .before .before .before .before .before .before .before .before .before .before .before .args .members) (c .before .before .before .before .before .before .before .before .before .before .before .before .before .before .before .before .before .before .before .before .args .at) (c .before .before .before .before .before .before .before .before .before .before .before .before .before .before .before .before .before .before .before .before .args .full .now) ((copied (c .before .before .before .before .before .before .before .before .before .before .before .before .before .before .before .before .before .before .before .before .args .text .now) (c .before .before .before .before .before .before .before .before .before .before .before .before .before .before .before .before .before .before .before .before .args .at) (c .before .before .before .before .before .before .before .before .before .before .before .before .before .before .before .before .before .before .before .before .args .word .now) (c .before .before .before .before .before .before .before .before .before .before .before .before .before .before .before .string-copy .ensures) (c .before .before .before .before .before .before .before .before .before .before .before .before .before .before .before .before .before .before .before .before .pre .0) (omega arith)) .front) (c .before .before .before .before .before .before .before .before .before .before .before .is-name .ensures) (not-false _ (c .before .before .before .before .before .before .before .before .before .before .if1 .left)) (c .before .before .before .before .before .before .before .before .has-dot .ensures) (c .before .before .before .before .before .before .before .if2 .left) (c .before .before .before .before .before .before .as-text .ensures) (c .before .before .before .before .q .given .1) _ _ ((copied (c .before .before .before .before .before .before .before .before .before .before .before .before .before .before .before .before .before .before .before .before .args .text .now) (c .before .before .before .before .before .before .before .before .before .before .before .before .before .before .before .before .before .before .before .before .args .at) (c .before .before .before .before .before .before .before .before .before .before .before .before .before .before .before .before .before .before .before .before .args .word .now) (c .before .before .before .before .before .before .before .before .before .before .before .before .before .before .before .string-copy .ensures) (c .before .before .before .before .before .before .before .before .before .before .before .before .before .before .before .before .before .before .before .before .pre .0) (omega arith)) .front) (c .in-namespace .ensures)
 
 pub definition-spec : {M : Type 1} → statement M
 definition-spec =
@@ -164,18 +122,5 @@ definition-spec =
     part-given-end-2
     given-requires-2
     returns-3
-    string-copy-requires-2
-    sub-is-namespace
-    part-is-namespace-start
-    part-is-namespace-end
-    is-namespace-requires
-    not-a-name-requires-2
-    returns-4
-    sub-given-3
-    part-given-start-3
-    part-given-end-3
-    sub-given-4
-    part-given-start-4
-    part-given-end-4
-    given-requires-3
-    returns-5)
+    in-namespace-requires
+    returns-4)

@@ -18,7 +18,7 @@ part-is-name-start c = search needs
 
 part-is-name-end : tie.Need-part-is-name-end
 part-is-name-end c =
-    let h = (copied (c .before .before .before .before .before .before .args .text .now) (c .before .before .before .before .before .before .args .at) (c .before .before .before .before .before .before .args .word .now) (c .before .before .string-copy .ensures) (c .before .before .before .before .before .before .pre) (omega arith)) .room in omega arith
+    let h = (copied (c .before .before .before .before .before .before .before .args .text .now) (c .before .before .before .before .before .before .before .args .at) (c .before .before .before .before .before .before .before .args .word .now) (c .before .before .string-copy .ensures) (c .before .before .before .before .before .before .before .pre .0) (omega arith)) .room in omega arith
 
 is-name-requires : tie.Need-is-name-requires
 is-name-requires c κs = search needs
@@ -28,7 +28,7 @@ not-a-name-requires c κs = search needs
 
 returns : tie.Need-returns
 returns c =
-    reference-not (c .before .before .before .before .before .before .before .before .before .before .args .text .now) (c .before .before .before .before .before .before .before .before .before .before .args .namespace .now) (c .before .before .before .before .before .before .before .before .before .before .args .at) (c .before .before .before .before .before .before .before .before .before .before .args .full .now) ((copied (c .before .before .before .before .before .before .before .before .before .before .args .text .now) (c .before .before .before .before .before .before .before .before .before .before .args .at) (c .before .before .before .before .before .before .before .before .before .before .args .word .now) (c .before .before .before .before .before .before .string-copy .ensures) (c .before .before .before .before .before .before .before .before .before .before .pre) (omega arith)) .front) (c .before .before .is-name .ensures) (not-true _ (c .before .if1 .taken)) (c .not-a-name .ensures)
+    reference-not (c .before .before .before .before .before .before .before .before .before .before .before .args .text .now) (c .before .before .before .before .before .before .before .before .before .before .before .args .namespace .now) (c .before .before .before .before .before .before .before .before .before .before .before .args .at) (c .before .before .before .before .before .before .before .before .before .before .before .args .full .now) ((copied (c .before .before .before .before .before .before .before .before .before .before .before .args .text .now) (c .before .before .before .before .before .before .before .before .before .before .before .args .at) (c .before .before .before .before .before .before .before .before .before .before .before .args .word .now) (c .before .before .before .before .before .before .string-copy .ensures) (c .before .before .before .before .before .before .before .before .before .before .before .pre .0) (omega arith)) .front) (c .before .before .is-name .ensures) (not-true _ (c .before .if1 .taken)) (c .not-a-name .ensures)
 
 sub-qualified : tie.Need-sub-qualified
 sub-qualified c = search needs
@@ -38,14 +38,14 @@ part-qualified-start c = search needs
 
 part-qualified-end : tie.Need-part-qualified-end
 part-qualified-end c =
-    let h = (copied (c .before .before .before .before .before .before .before .before .before .args .text .now) (c .before .before .before .before .before .before .before .before .before .args .at) (c .before .before .before .before .before .before .before .before .before .args .word .now) (c .before .before .before .before .before .string-copy .ensures) (c .before .before .before .before .before .before .before .before .before .pre) (omega arith)) .room in omega arith
+    let h = (copied (c .before .before .before .before .before .before .before .before .before .before .args .text .now) (c .before .before .before .before .before .before .before .before .before .before .args .at) (c .before .before .before .before .before .before .before .before .before .before .args .word .now) (c .before .before .before .before .before .string-copy .ensures) (c .before .before .before .before .before .before .before .before .before .before .pre .0) (omega arith)) .room in omega arith
 
 qualified-requires : tie.Need-qualified-requires
 qualified-requires c κs = search needs
 
 returns-2 : tie.Need-returns-2
 returns-2 c =
-    reference-kept (c .before .before .before .before .before .before .before .before .before .before .before .before .args .text .now) (c .before .before .before .before .before .before .before .before .before .before .before .before .args .namespace .now) (c .before .before .before .before .before .before .before .before .before .before .before .before .args .at) (c .before .before .before .before .before .before .before .before .before .before .before .before .args .full .now) ((copied (c .before .before .before .before .before .before .before .before .before .before .before .before .args .text .now) (c .before .before .before .before .before .before .before .before .before .before .before .before .args .at) (c .before .before .before .before .before .before .before .before .before .before .before .before .args .word .now) (c .before .before .before .before .before .before .before .before .string-copy .ensures) (c .before .before .before .before .before .before .before .before .before .before .before .before .pre) (omega arith)) .front) (c .before .before .before .before .is-name .ensures) (not-false _ (c .before .before .before .if1 .left)) (c .qualified .ensures)
+    reference-kept (c .before .before .before .before .before .before .before .before .before .before .before .before .before .args .text .now) (c .before .before .before .before .before .before .before .before .before .before .before .before .before .args .namespace .now) (c .before .before .before .before .before .before .before .before .before .before .before .before .before .args .at) (c .before .before .before .before .before .before .before .before .before .before .before .before .before .args .full .now) ((copied (c .before .before .before .before .before .before .before .before .before .before .before .before .before .args .text .now) (c .before .before .before .before .before .before .before .before .before .before .before .before .before .args .at) (c .before .before .before .before .before .before .before .before .before .before .before .before .before .args .word .now) (c .before .before .before .before .before .before .before .before .string-copy .ensures) (c .before .before .before .before .before .before .before .before .before .before .before .before .before .pre .0) (omega arith)) .front) (c .before .before .before .before .is-name .ensures) (not-false _ (c .before .before .before .if1 .left)) (c .qualified .ensures)
 
 pub reference-spec : {M : Type 1} → statement M
 reference-spec =

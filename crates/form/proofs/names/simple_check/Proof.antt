@@ -1,52 +1,74 @@
 -- `form::names::simple_check` meets its contract.
 -- Assumes nothing.
 use native.Mathlib.Omega.{arith}
+use Rattle.form.proofs.Written.{copied, simple-at}
+use Rattle.view.proofs.Known.{literal-lent}
 use borrow.Author.Needs.{needs}
-use borrow.Author.Tests.{not-false, not-true}
-use Rattle.form.proofs.Written.{copied, simple-kept, simple-not}
 use Rattle.form.proofs.names.simple_check.Statement.{statement}
 use Rattle.form.proofs.names.simple_check.Tie as tie
+
+literal-requires : tie.Need-literal-requires
+literal-requires c κs = search needs
+
+add-start : tie.Need-add-start
+add-start c =
+    let l = c .before .literal .ensures (c .if1 .taken) in let a = l .opens in let b = l .closes in omega arith
+
+sub-stop : tie.Need-sub-stop
+sub-stop c = search needs
+
+sub-simple : tie.Need-sub-simple
+sub-simple c =
+    let l = c .before .literal .ensures (c .if1 .taken) in let a = l .opens in let b = l .closes in omega arith
+
+part-simple-start : tie.Need-part-simple-start
+part-simple-start c =
+    let l = c .before .literal .ensures (c .if1 .taken) in let a = l .opens in let b = l .closes in omega arith
+
+part-simple-end : tie.Need-part-simple-end
+part-simple-end c =
+    let l = c .before .literal .ensures (c .if1 .taken) in let a = l .opens in let b = l .closes in omega arith
+
+simple-requires : tie.Need-simple-requires
+simple-requires c κs = search needs
+
+returns : tie.Need-returns
+returns c = simple-at _ _ (literal-lent (c .before .before .before .literal .ensures (c .before .before .if1 .taken))) (c .simple .ensures)
 
 string-copy-requires : tie.Need-string-copy-requires
 string-copy-requires c κs = search needs
 
-sub-is-simple : tie.Need-sub-is-simple
-sub-is-simple c = search needs
+sub-simple-2 : tie.Need-sub-simple-2
+sub-simple-2 c = search needs
 
-part-is-simple-start : tie.Need-part-is-simple-start
-part-is-simple-start c = search needs
+part-simple-start-2 : tie.Need-part-simple-start-2
+part-simple-start-2 c = search needs
 
-part-is-simple-end : tie.Need-part-is-simple-end
-part-is-simple-end c =
-    let h = (copied (c .before .before .before .before .before .args .text .now) (c .before .before .before .before .before .args .at) (c .before .before .before .before .before .args .word .now) (c .before .before .string-copy .ensures) (c .before .before .before .before .before .pre) (omega arith)) .room in omega arith
+part-simple-end-2 : tie.Need-part-simple-end-2
+part-simple-end-2 c =
+    let h = (copied (c .before .before .before .before .before .before .before .before .args .text .now) (c .before .before .before .before .before .before .before .before .args .at) (c .before .before .before .before .before .before .before .before .args .word .now) (c .before .before .string-copy .ensures) (c .before .before .before .before .before .before .before .before .pre .0) (omega arith)) .room in omega arith
 
-is-simple-requires : tie.Need-is-simple-requires
-is-simple-requires c κs = search needs
-
-not-a-name-requires : tie.Need-not-a-name-requires
-not-a-name-requires c κs = search needs
-
-returns : tie.Need-returns
-returns c =
-    (simple-not _ _ ((copied (c .before .before .before .before .before .before .before .before .before .args .text .now) (c .before .before .before .before .before .before .before .before .before .args .at) (c .before .before .before .before .before .before .before .before .before .args .word .now) (c .before .before .before .before .before .before .string-copy .ensures) (c .before .before .before .before .before .before .before .before .before .pre) (omega arith)) .front) (c .before .before .is-simple .ensures) (not-true _ (c .before .if1 .taken)) (c .not-a-name .ensures), c .before .before .before .before .before .before .string-copy .ensures .1)
-
-must-requires : tie.Need-must-requires
-must-requires c κs = search needs
+simple-requires-2 : tie.Need-simple-requires-2
+simple-requires-2 c κs = search needs
 
 returns-2 : tie.Need-returns-2
-returns-2 c =
-    (simple-kept _ _ ((copied (c .before .before .before .before .before .before .before .before .before .args .text .now) (c .before .before .before .before .before .before .before .before .before .args .at) (c .before .before .before .before .before .before .before .before .before .args .word .now) (c .before .before .before .before .before .before .string-copy .ensures) (c .before .before .before .before .before .before .before .before .before .pre) (omega arith)) .front) (c .before .before .is-simple .ensures) (not-false _ (c .before .if1 .left)) (c .before .before .before .before .before .before .string-copy .ensures .0) (c .must .ensures), c .before .before .before .before .before .before .string-copy .ensures .1)
+returns-2 c = simple-at _ _ ((copied (c .before .before .before .before .before .before .before .before .before .before .args .text .now) (c .before .before .before .before .before .before .before .before .before .before .args .at) (c .before .before .before .before .before .before .before .before .before .before .args .word .now) (c .before .before .before .before .string-copy .ensures) (c .before .before .before .before .before .before .before .before .before .before .pre .0) (omega arith)) .front) (c .simple2 .ensures)
 
 pub simple-check-spec : {M : Type 1} → statement M
 simple-check-spec =
     tie.close
     (tie.spec
-    string-copy-requires
-    sub-is-simple
-    part-is-simple-start
-    part-is-simple-end
-    is-simple-requires
-    not-a-name-requires
+    literal-requires
+    add-start
+    sub-stop
+    sub-simple
+    part-simple-start
+    part-simple-end
+    simple-requires
     returns
-    must-requires
+    string-copy-requires
+    sub-simple-2
+    part-simple-start-2
+    part-simple-end-2
+    simple-requires-2
     returns-2)

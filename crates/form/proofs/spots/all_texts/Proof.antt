@@ -12,10 +12,10 @@ use Rattle.form.proofs.spots.all_texts.Statement.{statement}
 use Rattle.form.proofs.spots.all_texts.Tie as tie
 
 abbrev Inv-loop : tie.InvT-loop
-Inv-loop text array spot₀ spot = allTexts text (elementsAt text spot) ≡ allTexts text (elements text array)
+Inv-loop text ends array spot₀ spot = allTexts text (elementsAt text spot) ≡ allTexts text (elements text array)
 
 abbrev μ-loop : tie.MeasureT-loop
-μ-loop text array spot₀ spot = length (elementsAt text spot)
+μ-loop text ends array spot₀ spot = length (elementsAt text spot)
 
 first-element-requires : tie.Need-first-element-requires Inv-loop μ-loop
 first-element-requires c κs = search needs

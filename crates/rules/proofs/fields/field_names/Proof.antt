@@ -1,27 +1,32 @@
 -- `rules::fields::field_names` meets its contract: what is left of the check, given what was passed, is the whole one.
 -- Assumes nothing.
 use mathlib.Core.List.{[]}
-use borrow.Author.Needs.{needs}
 use lib.ListN.{length}
-use Rattle.rules.proofs.Listed.{Going, fields-bad, fields-done, fields-on, fields-start, fieldsLeft}
+use borrow.Author.Needs.{needs}
+use Rattle.rules.proofs.Listed.{fieldsLeft}
+use Rattle.rules.proofs.Entering.{Marked, fields-bad, fields-done, fields-held, fields-on, fields-start}
 use Rattle.form.proofs.Laws.{visit-less}
-use Rattle.rules.specs.Fields.{fieldNamesCheck}
+use Rattle.rules.specs.Fields.{fieldNamesCheck, takenAmong}
 use Rattle.form.specs.Spots.{fieldsIn}
 use Rattle.view.specs.Elements.{elementsAt}
 use Rattle.rules.proofs.fields.field_names.Statement.{statement}
 use Rattle.rules.proofs.fields.field_names.Tie as tie
 
 abbrev Inv-loop : tie.InvT-loop
-Inv-loop text array spot₀ spot = Going text array spot (fieldsLeft text) (fieldNamesCheck text [] (fieldsIn text array))
+Inv-loop text ends array word₀ spot₀ word spot = Marked text array spot word (takenAmong text) (fieldsLeft text) (fieldNamesCheck text [] (fieldsIn text array))
 
 abbrev μ-loop : tie.MeasureT-loop
-μ-loop text array spot₀ spot = length (elementsAt text spot)
+μ-loop text ends array word₀ spot₀ word spot = length (elementsAt text spot)
+
+forget-requires : tie.Need-forget-requires Inv-loop μ-loop
+forget-requires c κs = search needs
 
 first-element-requires : tie.Need-first-element-requires Inv-loop μ-loop
 first-element-requires c κs = search needs
 
 loop-holds : tie.Need-loop-holds Inv-loop μ-loop
-loop-holds c = fields-start _ _ (c .first-element .ensures)
+loop-holds c =
+    fields-start _ _ (c .before .forget .ensures .1) (c .first-element .ensures)
 
 enum-known-spot : tie.Need-enum-known-spot Inv-loop μ-loop
 enum-known-spot c = search needs
@@ -33,14 +38,14 @@ returns : tie.Need-returns Inv-loop μ-loop
 returns c = fields-done _ (c .before .before .loop .inv) (c .enum-told .given .1)
 
 field-name-requires : tie.Need-field-name-requires Inv-loop μ-loop
-field-name-requires c κs = search needs
+field-name-requires c κs = (c .before .before .before .before .before .before .before .before .before .before .pre, fields-held _ (c .before .before .before .before .loop .inv) (c .before .before .spot .given .1))
 
 enum-known-f : tie.Need-enum-known-f Inv-loop μ-loop
 enum-known-f c = search needs
 
 returns-2 : tie.Need-returns-2 Inv-loop μ-loop
 returns-2 c =
-    fields-bad _ (c .before .before .before .before .before .before .before .loop .inv) (c .before .before .before .before .before .spot .given .1) (c .before .before .before .field-name .ensures) (c .before .f .given .1)
+    fields-bad _ (c .before .before .before .before .before .before .before .before .loop .inv) (c .before .before .before .before .before .before .spot .given .1) (c .before .before .before .field-name .ensures .0) (c .before .f .given .1)
 
 enum-told-2 : tie.Need-enum-told-2 Inv-loop μ-loop
 enum-told-2 c = search needs
@@ -49,12 +54,11 @@ next-element-requires : tie.Need-next-element-requires Inv-loop μ-loop
 next-element-requires c κs = search needs
 
 loop-less : tie.Need-loop-less Inv-loop μ-loop
-loop-less c =
-    visit-less _ (c .before .before .before .before .before .spot .given .1) (c .next-element .ensures)
+loop-less c = visit-less _ (c .before .before .before .before .before .before .spot .given .1) (c .next-element .ensures)
 
 loop-again : tie.Need-loop-again Inv-loop μ-loop
 loop-again c =
-    fields-on _ (c .before .before .before .before .before .before .before .loop .inv) (c .before .before .before .before .before .spot .given .1) (c .before .before .before .field-name .ensures) (c .before .enum-told2 .given .1) (c .next-element .ensures)
+    fields-on _ (c .before .before .before .before .before .before .before .before .loop .inv) (c .before .before .before .before .before .before .spot .given .1) (c .before .before .before .field-name .ensures .0) (c .before .enum-told2 .given .1) (c .before .before .before .field-name .ensures .1) (c .next-element .ensures)
 
 pub field-names-spec : {M : Type 1} → statement M
 field-names-spec =
@@ -62,6 +66,7 @@ field-names-spec =
     (tie.spec
     Inv-loop
     μ-loop
+    forget-requires
     first-element-requires
     loop-holds
     enum-known-spot

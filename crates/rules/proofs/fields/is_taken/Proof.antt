@@ -15,17 +15,17 @@ use Rattle.rules.proofs.fields.is_taken.Statement.{statement}
 use Rattle.rules.proofs.fields.is_taken.Tie as tie
 
 abbrev Inv-loop : tie.InvT-loop
-Inv-loop text array place at spot₀ spot = some (Takes text at) (before place (elementsAt text spot)) ≡ some (Takes text at) (before place (elements text array))
+Inv-loop text ends array place at spot₀ spot = some (Takes text at) (before place (elementsAt text spot)) ≡ some (Takes text at) (before place (elements text array))
 
 abbrev μ-loop : tie.MeasureT-loop
-μ-loop text array place at spot₀ spot = length (elementsAt text spot)
+μ-loop text ends array place at spot₀ spot = length (elementsAt text spot)
 
 first-element-requires : tie.Need-first-element-requires Inv-loop μ-loop
 first-element-requires c κs = search needs
 
 loop-holds : tie.Need-loop-holds Inv-loop μ-loop
 loop-holds c =
-    ap (λ (l : List ℕ). some (Takes (c .before .before .args .text .now) (c .before .before .args .at)) (before (c .before .before .args .place) l)) (left-start _ _ (c .first-element .ensures))
+    ap (λ (l : List ℕ). some (Takes (c .before .before .before .args .text .now) (c .before .before .before .args .at)) (before (c .before .before .before .args .place) l)) (left-start _ _ (c .first-element .ensures))
 
 enum-known-spot : tie.Need-enum-known-spot Inv-loop μ-loop
 enum-known-spot c = search needs
@@ -35,18 +35,18 @@ enum-told c = search needs
 
 returns : tie.Need-returns Inv-loop μ-loop
 returns c =
-    some-done (Takes (c .before .before .before .before .before .args .text .now) (c .before .before .before .before .before .args .at)) _ _ (c .before .before .loop .inv) (c .enum-told .given .1) ∙ (taken-some (c .before .before .before .before .before .args .text .now) (c .before .before .before .before .before .args .at) _)
+    some-done (Takes (c .before .before .before .before .before .before .args .text .now) (c .before .before .before .before .before .before .args .at)) _ _ (c .before .before .loop .inv) (c .enum-told .given .1) ∙ (taken-some (c .before .before .before .before .before .before .args .text .now) (c .before .before .before .before .before .before .args .at) _)
 
 returns-2 : tie.Need-returns-2 Inv-loop μ-loop
 returns-2 c =
-    some-here (Takes (c .before .before .before .before .before .before .before .args .text .now) (c .before .before .before .before .before .before .before .args .at)) _ _ (c .before .before .before .before .loop .inv) (c .before .before .spot .given .1) (c .if1 .taken) ∙ (taken-some (c .before .before .before .before .before .before .before .args .text .now) (c .before .before .before .before .before .before .before .args .at) _)
+    some-here (Takes (c .before .before .before .before .before .before .before .before .args .text .now) (c .before .before .before .before .before .before .before .before .args .at)) _ _ (c .before .before .before .before .loop .inv) (c .before .before .spot .given .1) (c .if1 .taken) ∙ (taken-some (c .before .before .before .before .before .before .before .before .args .text .now) (c .before .before .before .before .before .before .before .before .args .at) _)
 
 is-taker-requires : tie.Need-is-taker-requires Inv-loop μ-loop
 is-taker-requires c κs = search needs
 
 returns-3 : tie.Need-returns-3 Inv-loop μ-loop
 returns-3 c =
-    some-found (Takes (c .before .before .before .before .before .before .before .before .before .args .text .now) (c .before .before .before .before .before .before .before .before .before .args .at)) _ _ (c .before .before .before .before .before .before .loop .inv) (c .before .before .before .before .spot .given .1) (c .before .before .if1 .left) (c .before .is-taker .ensures) (c .if2 .taken) ∙ (taken-some (c .before .before .before .before .before .before .before .before .before .args .text .now) (c .before .before .before .before .before .before .before .before .before .args .at) _)
+    some-found (Takes (c .before .before .before .before .before .before .before .before .before .before .args .text .now) (c .before .before .before .before .before .before .before .before .before .before .args .at)) _ _ (c .before .before .before .before .before .before .loop .inv) (c .before .before .before .before .spot .given .1) (c .before .before .if1 .left) (c .before .is-taker .ensures) (c .if2 .taken) ∙ (taken-some (c .before .before .before .before .before .before .before .before .before .before .args .text .now) (c .before .before .before .before .before .before .before .before .before .before .args .at) _)
 
 next-element-requires : tie.Need-next-element-requires Inv-loop μ-loop
 next-element-requires c κs = search needs
@@ -57,7 +57,7 @@ loop-less c =
 
 loop-again : tie.Need-loop-again Inv-loop μ-loop
 loop-again c =
-    some-turn (Takes (c .before .before .before .before .before .before .before .before .before .before .args .text .now) (c .before .before .before .before .before .before .before .before .before .before .args .at)) _ _ (c .before .before .before .before .before .before .before .loop .inv) (c .before .before .before .before .before .spot .given .1) (c .before .before .before .if1 .left) (c .before .before .is-taker .ensures) (c .before .if2 .left) (c .next-element .ensures)
+    some-turn (Takes (c .before .before .before .before .before .before .before .before .before .before .before .args .text .now) (c .before .before .before .before .before .before .before .before .before .before .before .args .at)) _ _ (c .before .before .before .before .before .before .before .loop .inv) (c .before .before .before .before .before .spot .given .1) (c .before .before .before .if1 .left) (c .before .before .is-taker .ensures) (c .before .if2 .left) (c .next-element .ensures)
 
 pub is-taken-spec : {M : Type 1} → statement M
 is-taken-spec =

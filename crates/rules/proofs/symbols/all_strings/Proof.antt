@@ -12,10 +12,10 @@ use Rattle.rules.proofs.symbols.all_strings.Statement.{statement}
 use Rattle.rules.proofs.symbols.all_strings.Tie as tie
 
 abbrev Inv-loop : tie.InvT-loop
-Inv-loop text array spot₀ spot = stringsOf text (elementsAt text spot) ≡ stringsOf text (elements text array)
+Inv-loop text ends array spot₀ spot = stringsOf text (elementsAt text spot) ≡ stringsOf text (elements text array)
 
 abbrev μ-loop : tie.MeasureT-loop
-μ-loop text array spot₀ spot = length (elementsAt text spot)
+μ-loop text ends array spot₀ spot = length (elementsAt text spot)
 
 first-element-requires : tie.Need-first-element-requires Inv-loop μ-loop
 first-element-requires c κs = search needs

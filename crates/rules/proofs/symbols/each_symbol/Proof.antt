@@ -11,10 +11,10 @@ use Rattle.rules.proofs.symbols.each_symbol.Statement.{statement}
 use Rattle.rules.proofs.symbols.each_symbol.Tie as tie
 
 abbrev Inv-loop : tie.InvT-loop
-Inv-loop text array word₀ spot₀ word spot = Going text array spot (symbolsLeft text) (symbolsNew text [] (elements text array))
+Inv-loop text ends array word₀ spot₀ word spot = Going text array spot (symbolsLeft text) (symbolsNew text [] (elements text array))
 
 abbrev μ-loop : tie.MeasureT-loop
-μ-loop text array word₀ spot₀ word spot = length (elementsAt text spot)
+μ-loop text ends array word₀ spot₀ word spot = length (elementsAt text spot)
 
 first-element-requires : tie.Need-first-element-requires Inv-loop μ-loop
 first-element-requires c κs = search needs

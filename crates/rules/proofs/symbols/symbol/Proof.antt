@@ -24,11 +24,11 @@ must-requires c κs = search needs
 
 returns : tie.Need-returns
 returns c =
-    symbol-bad (c .before .before .before .before .before .before .args .text .now) (before (c .before .before .before .before .before .before .args .at) (elements (c .before .before .before .before .before .before .args .text .now) (c .before .before .before .before .before .before .args .array))) (c .before .before .before .before .before .before .args .at) (c .before .before .before .simple-check .ensures .0) (c .before .f .given .1)
+    symbol-bad (c .before .before .before .before .before .before .before .args .text .now) (before (c .before .before .before .before .before .before .before .args .at) (elements (c .before .before .before .before .before .before .before .args .text .now) (c .before .before .before .before .before .before .before .args .array))) (c .before .before .before .before .before .before .before .args .at) (c .before .before .before .simple-check .ensures) (c .before .f .given .1)
 
 returns-2 : tie.Need-returns-2
 returns-2 c =
-    symbol-next (c .before .before .before .before .before .before .before .args .text .now) (before (c .before .before .before .before .before .before .before .args .at) (elements (c .before .before .before .before .before .before .before .args .text .now) (c .before .before .before .before .before .before .before .args .array))) (c .before .before .before .before .before .before .before .args .at) (c .before .before .before .before .simple-check .ensures .0) (c .before .before .enum-told .given .1) (c .before .is-among .ensures) (c .must .ensures)
+    symbol-next (c .before .before .before .before .before .before .before .before .args .text .now) (before (c .before .before .before .before .before .before .before .before .args .at) (elements (c .before .before .before .before .before .before .before .before .args .text .now) (c .before .before .before .before .before .before .before .before .args .array))) (c .before .before .before .before .before .before .before .before .args .at) (c .before .before .before .before .simple-check .ensures) (c .before .before .enum-told .given .1) (c .before .is-among .ensures) (c .must .ensures)
 
 pub symbol-spec : {M : Type 1} → statement M
 symbol-spec =

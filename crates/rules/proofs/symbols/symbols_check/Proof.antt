@@ -14,17 +14,17 @@ enum-known-f c = search needs
 enum-told : tie.Need-enum-told
 enum-told c = search needs
 
-each-symbol-requires : tie.Need-each-symbol-requires
-each-symbol-requires c κs = search needs
+each-new-requires : tie.Need-each-new-requires
+each-new-requires c κs = search needs
 
 returns : tie.Need-returns
 returns c = symbols-not _ _ (c .before .before .before .all-strings .ensures) (c .before .f .given .1)
 
 returns-2 : tie.Need-returns-2
 returns-2 c =
-    symbols-each _ _ (c .before .before .before .before .all-strings .ensures) (c .before .before .enum-told .given .1) (c .each-symbol .ensures)
+    symbols-each _ _ (c .before .before .before .before .all-strings .ensures) (c .before .before .enum-told .given .1) (c .each-new .ensures)
 
 pub symbols-check-spec : {M : Type 1} → statement M
 symbols-check-spec =
     tie.close
-    (tie.spec all-strings-requires enum-known-f enum-told each-symbol-requires returns returns-2)
+    (tie.spec all-strings-requires enum-known-f enum-told each-new-requires returns returns-2)

@@ -48,35 +48,35 @@ enum-told-7 c = search needs
 
 returns : tie.Need-returns
 returns c =
-    λ namespace. c .word-number .ensures namespace ∙ ap headNumber (head-is (c .before .before .before .before .before .before .args .text .now) (c .before .before .before .before .before .before .args .at) (c .before .before .before .before .find .ensures) namespace (c .before .before .form .given .1) (head-word _ namespace _ _))
+    λ namespace. c .word-number .ensures namespace ∙ ap headNumber (head-is (c .before .before .before .before .before .before .before .args .text .now) (c .before .before .before .before .before .before .before .args .at) (c .before .before .before .before .find .ensures) namespace (c .before .before .form .given .1) (head-word _ namespace _ _))
 
 returns-2 : tie.Need-returns-2
 returns-2 c =
-    λ namespace. c .number .ensures ∙ ap headNumber (head-is (c .before .before .before .before .before .args .text .now) (c .before .before .before .before .before .args .at) (c .before .before .before .find .ensures) namespace (c .before .enum-told .given .1) (head-array _ namespace _))
+    λ namespace. c .number .ensures ∙ ap headNumber (head-is (c .before .before .before .before .before .before .args .text .now) (c .before .before .before .before .before .before .args .at) (c .before .before .before .find .ensures) namespace (c .before .enum-told .given .1) (head-array _ namespace _))
 
 returns-3 : tie.Need-returns-3
 returns-3 c =
-    λ namespace. c .number2 .ensures ∙ ap headNumber (head-is (c .before .before .before .before .before .args .text .now) (c .before .before .before .before .before .args .at) (c .before .before .before .find .ensures) namespace (c .before .enum-told2 .given .1) (head-map _ namespace _))
+    λ namespace. c .number2 .ensures ∙ ap headNumber (head-is (c .before .before .before .before .before .before .args .text .now) (c .before .before .before .before .before .before .args .at) (c .before .before .before .find .ensures) namespace (c .before .enum-told2 .given .1) (head-map _ namespace _))
 
 returns-4 : tie.Need-returns-4
 returns-4 c =
-    λ namespace. c .number3 .ensures ∙ ap headNumber (head-is (c .before .before .before .before .before .args .text .now) (c .before .before .before .before .before .args .at) (c .before .before .before .find .ensures) namespace (c .before .enum-told3 .given .1) (head-union _ namespace _))
+    λ namespace. c .number3 .ensures ∙ ap headNumber (head-is (c .before .before .before .before .before .before .args .text .now) (c .before .before .before .before .before .before .args .at) (c .before .before .before .find .ensures) namespace (c .before .enum-told3 .given .1) (head-union _ namespace _))
 
 returns-5 : tie.Need-returns-5
 returns-5 c =
-    λ namespace. sym (definition-number (c .before .before .before .before .args .text .now) namespace _) ∙ ap headNumber (head-is (c .before .before .before .before .args .text .now) (c .before .before .before .before .args .at) (c .before .before .find .ensures) namespace (c .enum-told4 .given .1) (head-record _ namespace _))
+    λ namespace. sym (definition-number (c .before .before .before .before .before .args .text .now) namespace _) ∙ ap headNumber (head-is (c .before .before .before .before .before .args .text .now) (c .before .before .before .before .before .args .at) (c .before .before .find .ensures) namespace (c .enum-told4 .given .1) (head-record _ namespace _))
 
 returns-6 : tie.Need-returns-6
 returns-6 c =
-    λ namespace. sym (definition-number (c .before .before .before .before .args .text .now) namespace _) ∙ ap headNumber (head-is (c .before .before .before .before .args .text .now) (c .before .before .before .before .args .at) (c .before .before .find .ensures) namespace (c .enum-told5 .given .1) (head-enum _ namespace _))
+    λ namespace. sym (definition-number (c .before .before .before .before .before .args .text .now) namespace _) ∙ ap headNumber (head-is (c .before .before .before .before .before .args .text .now) (c .before .before .before .before .before .args .at) (c .before .before .find .ensures) namespace (c .enum-told5 .given .1) (head-enum _ namespace _))
 
 returns-7 : tie.Need-returns-7
 returns-7 c =
-    λ namespace. sym (definition-number (c .before .before .before .before .args .text .now) namespace _) ∙ ap headNumber (head-is (c .before .before .before .before .args .text .now) (c .before .before .before .before .args .at) (c .before .before .find .ensures) namespace (c .enum-told6 .given .1) (head-fixed _ namespace _))
+    λ namespace. sym (definition-number (c .before .before .before .before .before .args .text .now) namespace _) ∙ ap headNumber (head-is (c .before .before .before .before .before .args .text .now) (c .before .before .before .before .before .args .at) (c .before .before .find .ensures) namespace (c .enum-told6 .given .1) (head-fixed _ namespace _))
 
 returns-8 : tie.Need-returns-8
 returns-8 c =
-    λ namespace. ap headNumber (head-is (c .before .before .before .before .args .text .now) (c .before .before .before .before .args .at) (c .before .before .find .ensures) namespace (c .enum-told7 .given .1) (head-wrong _ namespace _))
+    λ namespace. ap headNumber (head-is (c .before .before .before .before .before .args .text .now) (c .before .before .before .before .before .args .at) (c .before .before .find .ensures) namespace (c .enum-told7 .given .1) (head-wrong _ namespace _))
 
 pub head-number-spec : {M : Type 1} → statement M
 head-number-spec =

@@ -1,9 +1,7 @@
 -- `rules::unions::is_definition` meets its contract.
 -- Assumes nothing.
-use native.Mathlib.Omega.{arith}
 use borrow.Author.Needs.{needs}
 use Rattle.rules.proofs.Heads.{definition-in, definition-nameless, definition-within}
-use Rattle.form.proofs.Laws.{copied}
 use Rattle.rules.proofs.unions.is_definition.Statement.{statement}
 use Rattle.rules.proofs.unions.is_definition.Tie as tie
 
@@ -18,7 +16,7 @@ enum-told c = search needs
 
 returns : tie.Need-returns
 returns c =
-    definition-nameless (c .before .before .before .before .before .before .args .text .now) (c .before .before .before .before .before .before .args .enclosing .now) (c .before .before .before .before .before .before .args .members) (c .before .before .before .before .before .before .args .name .now) (c .before .before .as-text .ensures) (c .enum-told .given .1)
+    definition-nameless (c .before .before .before .before .before .before .before .args .text .now) (c .before .before .before .before .before .before .before .args .enclosing .now) (c .before .before .before .before .before .before .before .args .members) (c .before .before .before .before .before .before .before .args .name .now) (c .before .before .as-text .ensures) (c .enum-told .given .1)
 
 as-text-requires-2 : tie.Need-as-text-requires-2
 as-text-requires-2 c κs = search needs
@@ -34,27 +32,14 @@ is-named-requires c κs = search needs
 
 returns-2 : tie.Need-returns-2
 returns-2 c =
-    definition-in (c .before .before .before .before .before .before .before .before .before .before .before .before .before .args .text .now) (c .before .before .before .before .before .before .before .before .before .before .before .before .before .args .enclosing .now) (c .before .before .before .before .before .before .before .before .before .before .before .before .before .args .members) (c .before .before .before .before .before .before .before .before .before .before .before .before .before .args .name .now) (c .before .before .before .before .before .before .before .before .before .as-text .ensures) (c .before .before .before .before .before .before .before .p .given .1) (c .before .before .before .before .before .as-text2 .ensures) (c .before .before .before .enum-told2 .given .1) (c .is-named .ensures)
+    definition-in (c .before .before .before .before .before .before .before .before .before .before .before .before .before .before .args .text .now) (c .before .before .before .before .before .before .before .before .before .before .before .before .before .before .args .enclosing .now) (c .before .before .before .before .before .before .before .before .before .before .before .before .before .before .args .members) (c .before .before .before .before .before .before .before .before .before .before .before .before .before .before .args .name .now) (c .before .before .before .before .before .before .before .before .before .as-text .ensures) (c .before .before .before .before .before .before .before .p .given .1) (c .before .before .before .before .before .as-text2 .ensures) (c .before .before .before .enum-told2 .given .1) (c .is-named .ensures)
 
-string-copy-requires : tie.Need-string-copy-requires
-string-copy-requires c κs = search needs
-
-sub-is-named : tie.Need-sub-is-named
-sub-is-named c = search needs
-
-part-is-named-start : tie.Need-part-is-named-start
-part-is-named-start c = search needs
-
-part-is-named-end : tie.Need-part-is-named-end
-part-is-named-end c =
-    let h = (copied (c .before .before .before .before .before .before .before .before .before .before .before .before .before .before .before .args .text .now) (c .before .before .before .before .before .q .given .0 .0) (c .before .before .before .before .before .before .before .before .before .before .before .before .before .before .before .args .space .now) (c .before .before .string-copy .ensures) (c .before .before .before .before .before .before .before .before .before .before .before .before .before .before .before .pre .0) (omega arith)) .room in omega arith
-
-is-named-requires-2 : tie.Need-is-named-requires-2
-is-named-requires-2 c κs = search needs
+is-named-in-requires : tie.Need-is-named-in-requires
+is-named-in-requires c κs = search needs
 
 returns-3 : tie.Need-returns-3
 returns-3 c =
-    definition-within (c .before .before .before .before .before .before .before .before .before .before .before .before .before .before .before .before .before .before .before .args .text .now) (c .before .before .before .before .before .before .before .before .before .before .before .before .before .before .before .before .before .before .before .args .enclosing .now) (c .before .before .before .before .before .before .before .before .before .before .before .before .before .before .before .before .before .before .before .args .members) (c .before .before .before .before .before .before .before .before .before .before .before .before .before .before .before .before .before .before .before .args .name .now) (c .before .before .before .before .before .before .before .before .before .before .before .before .before .before .before .as-text .ensures) (c .before .before .before .before .before .before .before .before .before .before .before .before .before .p .given .1) (c .before .before .before .before .before .before .before .before .before .before .before .as-text2 .ensures) (c .before .before .before .before .before .before .before .before .before .q .given .1) ((copied (c .before .before .before .before .before .before .before .before .before .before .before .before .before .before .before .before .before .before .before .args .text .now) (c .before .before .before .before .before .before .before .before .before .q .given .0 .0) (c .before .before .before .before .before .before .before .before .before .before .before .before .before .before .before .before .before .before .before .args .space .now) (c .before .before .before .before .before .before .string-copy .ensures) (c .before .before .before .before .before .before .before .before .before .before .before .before .before .before .before .before .before .before .before .pre .0) (omega arith)) .front) (c .is-named2 .ensures)
+    definition-within (c .before .before .before .before .before .before .before .before .before .before .before .before .before .before .before .args .text .now) (c .before .before .before .before .before .before .before .before .before .before .before .before .before .before .before .args .enclosing .now) (c .before .before .before .before .before .before .before .before .before .before .before .before .before .before .before .args .members) (c .before .before .before .before .before .before .before .before .before .before .before .before .before .before .before .args .name .now) (c .before .before .before .before .before .before .before .before .before .before .as-text .ensures) (c .before .before .before .before .before .before .before .before .p .given .1) (c .before .before .before .before .before .before .as-text2 .ensures) (c .before .before .before .before .q .given .1) (c .is-named-in .ensures)
 
 pub is-definition-spec : {M : Type 1} → statement M
 is-definition-spec =
@@ -69,9 +54,5 @@ is-definition-spec =
     enum-told-2
     is-named-requires
     returns-2
-    string-copy-requires
-    sub-is-named
-    part-is-named-start
-    part-is-named-end
-    is-named-requires-2
+    is-named-in-requires
     returns-3)

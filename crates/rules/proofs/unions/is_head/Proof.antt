@@ -48,35 +48,35 @@ enum-told-7 c = search needs
 
 returns : tie.Need-returns
 returns c =
-    c .is-reference .ensures ∙ ap (λ (h : Head). clash h (called (c .before .before .before .before .before .before .before .before .before .before .before .args .name .now))) (head-is (c .before .before .before .before .before .before .before .before .before .before .before .args .text .now) (c .before .before .before .before .before .before .before .before .before .before .before .args .at) (c .before .before .before .before .before .before .before .find .ensures) (c .before .before .before .before .before .before .before .before .before .before .before .args .namespace .now) (c .before .before .before .before .form .given .1) (head-word _ _ _ _))
+    c .is-reference .ensures ∙ ap (λ (h : Head). clash h (called (c .before .before .before .before .before .before .before .before .before .before .before .before .args .name .now))) (head-is (c .before .before .before .before .before .before .before .before .before .before .before .before .args .text .now) (c .before .before .before .before .before .before .before .before .before .before .before .before .args .at) (c .before .before .before .before .before .before .before .find .ensures) (c .before .before .before .before .before .before .before .before .before .before .before .before .args .namespace .now) (c .before .before .before .before .form .given .1) (head-word _ _ _ _))
 
 returns-2 : tie.Need-returns-2
 returns-2 c =
-    clash-apart _ (c .before .before .before .before .before .before .before .args .name .now) ∙ ap (λ (h : Head). clash h (called (c .before .before .before .before .before .before .before .args .name .now))) (head-is (c .before .before .before .before .before .before .before .args .text .now) (c .before .before .before .before .before .before .before .args .at) (c .before .before .before .find .ensures) (c .before .before .before .before .before .before .before .args .namespace .now) (c .enum-told .given .1) (head-array _ _ _))
+    clash-apart _ (c .before .before .before .before .before .before .before .before .args .name .now) ∙ ap (λ (h : Head). clash h (called (c .before .before .before .before .before .before .before .before .args .name .now))) (head-is (c .before .before .before .before .before .before .before .before .args .text .now) (c .before .before .before .before .before .before .before .before .args .at) (c .before .before .before .find .ensures) (c .before .before .before .before .before .before .before .before .args .namespace .now) (c .enum-told .given .1) (head-array _ _ _))
 
 returns-3 : tie.Need-returns-3
 returns-3 c =
-    clash-apart _ (c .before .before .before .before .before .before .before .args .name .now) ∙ ap (λ (h : Head). clash h (called (c .before .before .before .before .before .before .before .args .name .now))) (head-is (c .before .before .before .before .before .before .before .args .text .now) (c .before .before .before .before .before .before .before .args .at) (c .before .before .before .find .ensures) (c .before .before .before .before .before .before .before .args .namespace .now) (c .enum-told2 .given .1) (head-map _ _ _))
+    clash-apart _ (c .before .before .before .before .before .before .before .before .args .name .now) ∙ ap (λ (h : Head). clash h (called (c .before .before .before .before .before .before .before .before .args .name .now))) (head-is (c .before .before .before .before .before .before .before .before .args .text .now) (c .before .before .before .before .before .before .before .before .args .at) (c .before .before .before .find .ensures) (c .before .before .before .before .before .before .before .before .args .namespace .now) (c .enum-told2 .given .1) (head-map _ _ _))
 
 returns-4 : tie.Need-returns-4
 returns-4 c =
-    clash-apart _ (c .before .before .before .before .before .before .before .args .name .now) ∙ ap (λ (h : Head). clash h (called (c .before .before .before .before .before .before .before .args .name .now))) (head-is (c .before .before .before .before .before .before .before .args .text .now) (c .before .before .before .before .before .before .before .args .at) (c .before .before .before .find .ensures) (c .before .before .before .before .before .before .before .args .namespace .now) (c .enum-told3 .given .1) (head-union _ _ _))
+    clash-apart _ (c .before .before .before .before .before .before .before .before .args .name .now) ∙ ap (λ (h : Head). clash h (called (c .before .before .before .before .before .before .before .before .args .name .now))) (head-is (c .before .before .before .before .before .before .before .before .args .text .now) (c .before .before .before .before .before .before .before .before .args .at) (c .before .before .before .find .ensures) (c .before .before .before .before .before .before .before .before .args .namespace .now) (c .enum-told3 .given .1) (head-union _ _ _))
 
 returns-5 : tie.Need-returns-5
 returns-5 c =
-    c .is-definition .ensures ∙ ap (λ (h : Head). clash h (called (c .before .before .before .before .before .before .before .before .before .before .before .args .name .now))) (definition-is (c .before .before .before .before .before .before .before .before .before .before .before .args .text .now) (c .before .before .before .before .before .before .before .before .before .before .before .args .at) (c .before .before .before .before .before .before .before .find .ensures) (c .before .before .before .before .before .before .before .before .before .before .before .args .namespace .now) (c .before .before .before .before .enum-told4 .given .1) (head-record _ _ _))
+    c .is-definition .ensures ∙ ap (λ (h : Head). clash h (called (c .before .before .before .before .before .before .before .before .before .before .before .args .name .now))) (definition-is (c .before .before .before .before .before .before .before .before .before .before .before .args .text .now) (c .before .before .before .before .before .before .before .before .before .before .before .args .at) (c .before .before .before .before .before .before .find .ensures) (c .before .before .before .before .before .before .before .before .before .before .before .args .namespace .now) (c .before .before .before .enum-told4 .given .1) (head-record _ _ _))
 
 returns-6 : tie.Need-returns-6
 returns-6 c =
-    c .is-definition2 .ensures ∙ ap (λ (h : Head). clash h (called (c .before .before .before .before .before .before .before .before .before .before .before .args .name .now))) (definition-is (c .before .before .before .before .before .before .before .before .before .before .before .args .text .now) (c .before .before .before .before .before .before .before .before .before .before .before .args .at) (c .before .before .before .before .before .before .before .find .ensures) (c .before .before .before .before .before .before .before .before .before .before .before .args .namespace .now) (c .before .before .before .before .enum-told5 .given .1) (head-enum _ _ _))
+    c .is-definition2 .ensures ∙ ap (λ (h : Head). clash h (called (c .before .before .before .before .before .before .before .before .before .before .before .args .name .now))) (definition-is (c .before .before .before .before .before .before .before .before .before .before .before .args .text .now) (c .before .before .before .before .before .before .before .before .before .before .before .args .at) (c .before .before .before .before .before .before .find .ensures) (c .before .before .before .before .before .before .before .before .before .before .before .args .namespace .now) (c .before .before .before .enum-told5 .given .1) (head-enum _ _ _))
 
 returns-7 : tie.Need-returns-7
 returns-7 c =
-    c .is-definition3 .ensures ∙ ap (λ (h : Head). clash h (called (c .before .before .before .before .before .before .before .before .before .before .before .args .name .now))) (definition-is (c .before .before .before .before .before .before .before .before .before .before .before .args .text .now) (c .before .before .before .before .before .before .before .before .before .before .before .args .at) (c .before .before .before .before .before .before .before .find .ensures) (c .before .before .before .before .before .before .before .before .before .before .before .args .namespace .now) (c .before .before .before .before .enum-told6 .given .1) (head-fixed _ _ _))
+    c .is-definition3 .ensures ∙ ap (λ (h : Head). clash h (called (c .before .before .before .before .before .before .before .before .before .before .before .args .name .now))) (definition-is (c .before .before .before .before .before .before .before .before .before .before .before .args .text .now) (c .before .before .before .before .before .before .before .before .before .before .before .args .at) (c .before .before .before .before .before .before .find .ensures) (c .before .before .before .before .before .before .before .before .before .before .before .args .namespace .now) (c .before .before .before .enum-told6 .given .1) (head-fixed _ _ _))
 
 returns-8 : tie.Need-returns-8
 returns-8 c =
-    clash-empty (c .before .before .before .before .before .before .before .args .name .now) ∙ ap (λ (h : Head). clash h (called (c .before .before .before .before .before .before .before .args .name .now))) (head-is (c .before .before .before .before .before .before .before .args .text .now) (c .before .before .before .before .before .before .before .args .at) (c .before .before .before .find .ensures) (c .before .before .before .before .before .before .before .args .namespace .now) (c .enum-told7 .given .1) (head-wrong _ _ _))
+    clash-empty (c .before .before .before .before .before .before .before .before .args .name .now) ∙ ap (λ (h : Head). clash h (called (c .before .before .before .before .before .before .before .before .args .name .now))) (head-is (c .before .before .before .before .before .before .before .before .args .text .now) (c .before .before .before .before .before .before .before .before .args .at) (c .before .before .before .find .ensures) (c .before .before .before .before .before .before .before .before .args .namespace .now) (c .enum-told7 .given .1) (head-wrong _ _ _))
 
 pub is-head-spec : {M : Type 1} → statement M
 is-head-spec =

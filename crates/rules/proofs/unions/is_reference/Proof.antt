@@ -19,11 +19,11 @@ is-named-requires c κs = search needs
 
 returns : tie.Need-returns
 returns c =
-    is-reference-yes (c .before .before .before .before .before .before .before .before .before .before .args .text .now) (c .before .before .before .before .before .before .before .before .before .before .args .at) (c .before .before .before .before .before .before .word-kind .ensures) (c .before .before .before .before .before .number .ensures) (c .before .before .before .before .before .before .before .before .before .before .args .namespace .now) (c .before .before .before .before .before .before .before .before .before .before .args .name .now) (c .before .before .before .before .number2 .ensures) (c .before .before .before .if1 .taken) (c .is-named .ensures)
+    is-reference-yes (c .before .before .before .before .before .before .before .before .before .before .before .args .text .now) (c .before .before .before .before .before .before .before .before .before .before .before .args .at) (c .before .before .before .before .before .before .word-kind .ensures) (c .before .before .before .before .before .number .ensures) (c .before .before .before .before .before .before .before .before .before .before .before .args .namespace .now) (c .before .before .before .before .before .before .before .before .before .before .before .args .name .now) (c .before .before .before .before .number2 .ensures) (c .before .before .before .if1 .taken) (c .is-named .ensures)
 
 returns-2 : tie.Need-returns-2
 returns-2 c =
-    is-reference-no (c .before .before .before .before .before .before .before .args .text .now) (c .before .before .before .before .before .before .before .args .at) (c .before .before .before .word-kind .ensures) (c .before .before .number .ensures) (c .before .before .before .before .before .before .before .args .namespace .now) (c .before .before .before .before .before .before .before .args .name .now) (c .before .number2 .ensures) (c .if1 .left)
+    is-reference-no (c .before .before .before .before .before .before .before .before .args .text .now) (c .before .before .before .before .before .before .before .before .args .at) (c .before .before .before .word-kind .ensures) (c .before .before .number .ensures) (c .before .before .before .before .before .before .before .before .args .namespace .now) (c .before .before .before .before .before .before .before .before .args .name .now) (c .before .number2 .ensures) (c .if1 .left)
 
 pub is-reference-spec : {M : Type 1} → statement M
 is-reference-spec =

@@ -22,7 +22,7 @@ must-requires c κs = search needs
 
 returns-2 : tie.Need-returns-2
 returns-2 c =
-    name-new _ _ (c .before .before .before .before .before .standing .given .1) _ (c .before .is-new-name .ensures) (c .must .ensures)
+    name-new _ _ (c .before .before .before .before .standing .given .1) _ (c .before .is-new-name .ensures) (c .must .ensures)
 
 pub new-name-spec : {M : Type 1} → statement M
 new-name-spec =

@@ -16,11 +16,11 @@ number-requires-2 c κs = search needs
 
 returns : tie.Need-returns
 returns c =
-    number-reference (c .before .before .before .before .before .args .text .now) (c .before .before .before .before .before .args .at) (c .before .before .before .word-kind .ensures) (c .before .before .number .ensures) (c .before .number2 .ensures) (c .if1 .taken)
+    number-reference (c .before .before .before .before .before .before .args .text .now) (c .before .before .before .before .before .before .args .at) (c .before .before .before .word-kind .ensures) (c .before .before .number .ensures) (c .before .number2 .ensures) (c .if1 .taken)
 
 returns-2 : tie.Need-returns-2
 returns-2 c =
-    number-primitive (c .before .before .before .before .before .args .text .now) (c .before .before .before .before .before .args .at) (c .before .before .before .word-kind .ensures) (c .before .before .number .ensures) (c .before .number2 .ensures) (c .if1 .left)
+    number-primitive (c .before .before .before .before .before .before .args .text .now) (c .before .before .before .before .before .before .args .at) (c .before .before .before .word-kind .ensures) (c .before .before .number .ensures) (c .before .number2 .ensures) (c .if1 .left)
 
 pub word-number-spec : {M : Type 1} → statement M
 word-number-spec =

@@ -44,14 +44,14 @@ same-length c = search needs
 
 returns-3 : tie.Need-returns-3
 returns-3 c =
-    fixed-bad _ _ _ _ _ _ (c .before .before .before .before .before .before .before .before .before .before .before .before .before .before .before .before .spot .given .1) (c .before .before .before .before .before .before .before .before .before .before .before .before .before .before .size-literal .ensures) (c .before .before .before .before .before .before .before .before .before .before .before .before .size .given .1) (c .before .before .before .before .before .before .before .before .before .before .decimal-note .ensures) (c .before .before .before .before .before .define .ensures) (c .before .f .given .1)
+    fixed-bad _ _ _ _ _ _ (c .before .before .before .before .before .before .before .before .before .before .before .before .before .before .before .spot .given .1) (c .before .before .before .before .before .before .before .before .before .before .before .before .before .size-literal .ensures) (c .before .before .before .before .before .before .before .before .before .before .before .size .given .1) (c .before .before .before .before .before .before .before .before .before .decimal-note .ensures) (c .before .before .before .before .before .define .ensures) (c .before .f .given .1)
 
 same-length-2 : tie.Need-same-length-2
 same-length-2 c = search needs
 
 returns-4 : tie.Need-returns-4
 returns-4 c =
-    fixed-done _ _ _ _ _ _ (c .before .before .before .before .before .before .before .before .before .before .before .before .before .before .before .before .spot .given .1) (c .before .before .before .before .before .before .before .before .before .before .before .before .before .before .size-literal .ensures) (c .before .before .before .before .before .before .before .before .before .before .before .before .size .given .1) (c .before .before .before .before .before .before .before .before .before .before .decimal-note .ensures) (c .before .before .before .before .before .define .ensures) (c .before .next .given .1)
+    fixed-done _ _ _ _ _ _ (c .before .before .before .before .before .before .before .before .before .before .before .before .before .before .before .spot .given .1) (c .before .before .before .before .before .before .before .before .before .before .before .before .before .size-literal .ensures) (c .before .before .before .before .before .before .before .before .before .before .before .size .given .1) (c .before .before .before .before .before .before .before .before .before .decimal-note .ensures) (c .before .before .before .before .before .define .ensures) (c .before .next .given .1)
 
 pub put-fixed-spec : {M : Type 1} → statement M
 put-fixed-spec =

@@ -28,14 +28,14 @@ enum-known-f c = search needs
 
 returns-2 : tie.Need-returns-2
 returns-2 c =
-    field-bad _ _ _ _ (c .before .before .before .before .before .before .before .before .as-text .ensures) (c .before .before .before .before .before .before .q .given .1) (c .before .before .before .simple-check .ensures .0) (c .before .f .given .1)
+    field-bad _ _ _ _ (c .before .before .before .before .before .before .before .before .as-text .ensures) (c .before .before .before .before .before .before .q .given .1) (c .before .before .before .simple-check .ensures) (c .before .f .given .1)
 
 enum-told-2 : tie.Need-enum-told-2
 enum-told-2 c = search needs
 
 put-string-requires : tie.Need-put-string-requires
 put-string-requires c κs =
-    let h = simple-within _ _ (sym (c .before .before .before .before .simple-check .ensures .0) ∙ c .before .before .enum-told2 .given .1) in (omega arith, omega arith)
+    let h = simple-within _ _ (sym (c .before .before .before .before .simple-check .ensures) ∙ c .before .before .enum-told2 .given .1) in (omega arith, omega arith, search needs)
 
 first-alias-requires : tie.Need-first-alias-requires
 first-alias-requires c κs = search needs
@@ -51,7 +51,7 @@ same-length c = search needs
 
 returns-3 : tie.Need-returns-3
 returns-3 c =
-    field-fine _ _ _ _ (c .before .before .before .before .before .before .before .before .before .before .before .before .before .before .before .before .before .before .as-text .ensures) (c .before .before .before .before .before .before .before .before .before .before .before .before .before .before .before .before .q .given .1) (c .before .before .before .before .before .before .before .before .before .before .before .before .before .simple-check .ensures .0) _ (c .before .before .before .before .before .before .before .before .before .before .before .enum-told2 .given .1) (c .before .before .before .before .before .before .before .before .put-string .ensures) (c .before .before .before .before .before .first-alias .ensures) (c .before .before .put-field-aliases .ensures)
+    field-fine _ _ _ _ (c .before .before .before .before .before .before .before .before .before .before .before .before .before .before .before .before .before .before .as-text .ensures) (c .before .before .before .before .before .before .before .before .before .before .before .before .before .before .before .before .q .given .1) (c .before .before .before .before .before .before .before .before .before .before .before .before .before .simple-check .ensures) _ (c .before .before .before .before .before .before .before .before .before .before .before .enum-told2 .given .1) (c .before .before .before .before .before .before .before .before .put-string .ensures) (c .before .before .before .before .before .first-alias .ensures) (c .before .before .put-field-aliases .ensures)
 
 pub put-field-head-spec : {M : Type 1} → statement M
 put-field-head-spec =

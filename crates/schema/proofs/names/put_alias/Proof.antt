@@ -24,11 +24,11 @@ part-put-start c = search needs
 
 part-put-end : tie.Need-part-put-end
 part-put-end c =
-    let h = (alias-held (c .before .before .before .before .before .before .before .before .before .before .before .before .args .text .now) (c .before .before .before .before .before .before .before .before .before .before .before .before .args .namespace .now) (c .before .before .before .before .before .before .before .before .before .before .before .before .args .full .now) (c .before .before .before .before .before .before .before .before .before .before .before .before .args .at) (c .before .before .before .before .before .before .alias .ensures) (c .before .before .before .before .n .given .1) (omega arith)) .room in omega arith
+    let h = (alias-held (c .before .before .before .before .before .before .before .before .before .before .before .before .before .args .text .now) (c .before .before .before .before .before .before .before .before .before .before .before .before .before .args .namespace .now) (c .before .before .before .before .before .before .before .before .before .before .before .before .before .args .full .now) (c .before .before .before .before .before .before .before .before .before .before .before .before .before .args .at) (c .before .before .before .before .before .before .alias .ensures) (c .before .before .before .before .n .given .1) (omega arith)) .room in omega arith
 
 put-requires : tie.Need-put-requires
 put-requires c κs =
-    let h = (alias-held (c .before .before .before .before .before .before .before .before .before .before .before .before .before .args .text .now) (c .before .before .before .before .before .before .before .before .before .before .before .before .before .args .namespace .now) (c .before .before .before .before .before .before .before .before .before .before .before .before .before .args .full .now) (c .before .before .before .before .before .before .before .before .before .before .before .before .before .args .at) (c .before .before .before .before .before .before .before .alias .ensures) (c .before .before .before .before .before .n .given .1) (omega arith)) .within in omega arith
+    let h = (alias-held (c .before .before .before .before .before .before .before .before .before .before .before .before .before .before .args .text .now) (c .before .before .before .before .before .before .before .before .before .before .before .before .before .before .args .namespace .now) (c .before .before .before .before .before .before .before .before .before .before .before .before .before .before .args .full .now) (c .before .before .before .before .before .before .before .before .before .before .before .before .before .before .args .at) (c .before .before .before .before .before .before .before .alias .ensures) (c .before .before .before .before .before .n .given .1) (omega arith)) .within in omega arith
 
 returns : tie.Need-returns
 returns c =
@@ -39,7 +39,7 @@ same-length c = search needs
 
 returns-2 : tie.Need-returns-2
 returns-2 c =
-    let h = (alias-held (c .before .before .before .before .before .before .before .before .before .before .before .before .before .before .before .before .args .text .now) (c .before .before .before .before .before .before .before .before .before .before .before .before .before .before .before .before .args .namespace .now) (c .before .before .before .before .before .before .before .before .before .before .before .before .before .before .before .before .args .full .now) (c .before .before .before .before .before .before .before .before .before .before .before .before .before .before .before .before .args .at) (c .before .before .before .before .before .before .before .before .before .before .alias .ensures) (c .before .before .before .before .before .before .before .before .n .given .1) (omega arith)) in alias-kept _ _ _ _ (h .fine) (h .front) (c .before .before .put .ensures .0) (c .before .before .put .ensures .1)
+    let h = (alias-held (c .before .before .before .before .before .before .before .before .before .before .before .before .before .before .before .before .before .args .text .now) (c .before .before .before .before .before .before .before .before .before .before .before .before .before .before .before .before .before .args .namespace .now) (c .before .before .before .before .before .before .before .before .before .before .before .before .before .before .before .before .before .args .full .now) (c .before .before .before .before .before .before .before .before .before .before .before .before .before .before .before .before .before .args .at) (c .before .before .before .before .before .before .before .before .before .before .alias .ensures) (c .before .before .before .before .before .before .before .before .n .given .1) (omega arith)) in alias-kept _ _ _ _ (h .fine) (h .front) (c .before .before .put .ensures .0) (c .before .before .put .ensures .1)
 
 pub put-alias-spec : {M : Type 1} → statement M
 put-alias-spec =

@@ -19,18 +19,18 @@ enum-told c = search needs
 
 put-string-requires : tie.Need-put-string-requires
 put-string-requires c κs =
-    let h = simple-within _ _ (sym (c .before .before .before .before .simple-check .ensures .0) ∙ c .before .before .enum-told .given .1) in (omega arith, omega arith)
+    let h = simple-within _ _ (sym (c .before .before .before .before .simple-check .ensures) ∙ c .before .before .enum-told .given .1) in (omega arith, omega arith, search needs)
 
 returns : tie.Need-returns
 returns c =
-    field-alias-bad _ _ _ (c .before .before .before .simple-check .ensures .0) (c .before .f .given .1)
+    field-alias-bad _ _ _ (c .before .before .before .simple-check .ensures) (c .before .f .given .1)
 
 same-length : tie.Need-same-length
 same-length c = search needs
 
 returns-2 : tie.Need-returns-2
 returns-2 c =
-    field-alias-fine _ _ _ (c .before .before .before .before .before .before .before .simple-check .ensures .0) (c .before .before .before .before .before .enum-told .given .1) (c .before .before .put-string .ensures)
+    field-alias-fine _ _ _ (c .before .before .before .before .before .before .before .simple-check .ensures) (c .before .before .before .before .before .enum-told .given .1) (c .before .before .put-string .ensures)
 
 pub put-field-alias-spec : {M : Type 1} → statement M
 put-field-alias-spec =

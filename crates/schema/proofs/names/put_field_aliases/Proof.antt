@@ -17,11 +17,11 @@ use Rattle.schema.proofs.names.put_field_aliases.Statement.{statement}
 use Rattle.schema.proofs.names.put_field_aliases.Tie as tie
 
 abbrev Inv-loop : tie.InvT-loop
-Inv-loop text depth draft₀ word₀ sum₀ spot₀ draft word sum spot = (length draft ≡ length draft₀)
+Inv-loop text ends depth draft₀ word₀ sum₀ spot₀ draft word sum spot = (length draft ≡ length draft₀)
     × ((m : List ℕ) (r : Walked) → Did draft sum m r (each (fieldAliasRows text depth) (elementsAt text spot)) → Did draft₀ sum₀ m r (each (fieldAliasRows text depth) (elementsAt text spot₀)))
 
 abbrev μ-loop : tie.MeasureT-loop
-μ-loop text depth draft₀ word₀ sum₀ spot₀ draft word sum spot = length (elementsAt text spot)
+μ-loop text ends depth draft₀ word₀ sum₀ spot₀ draft word sum spot = length (elementsAt text spot)
 
 loop-holds : tie.Need-loop-holds Inv-loop μ-loop
 loop-holds c = (refl, λ m r d. d)

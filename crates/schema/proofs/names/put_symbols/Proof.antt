@@ -20,11 +20,11 @@ use Rattle.schema.proofs.names.put_symbols.Statement.{statement}
 use Rattle.schema.proofs.names.put_symbols.Tie as tie
 
 abbrev Inv-loop : tie.InvT-loop
-Inv-loop text depth array draft₀ word₀ sum₀ spot₀ draft word sum spot = (length draft ≡ length draft₀) × AllWithin text spot
+Inv-loop text ends depth array draft₀ word₀ sum₀ spot₀ draft word sum spot = (length draft ≡ length draft₀) × AllWithin text spot
     × ((m : List ℕ) (r : Walked) → Did draft sum m r (each (symbolRows text depth) (elementsAt text spot)) → Did draft₀ sum₀ m r (each (symbolRows text depth) (elementsAt text spot₀)))
 
 abbrev μ-loop : tie.MeasureT-loop
-μ-loop text depth array draft₀ word₀ sum₀ spot₀ draft word sum spot = length (elementsAt text spot)
+μ-loop text ends depth array draft₀ word₀ sum₀ spot₀ draft word sum spot = length (elementsAt text spot)
 
 first-element-requires : tie.Need-first-element-requires Inv-loop μ-loop
 first-element-requires c κs = search needs
@@ -47,7 +47,7 @@ returns c =
 
 put-string-requires : tie.Need-put-string-requires Inv-loop μ-loop
 put-string-requires c κs =
-    let h = within-first _ (c .before .before .before .before .before .loop .inv .1) (c .before .before .before .spot .given .1) in (omega arith, omega arith)
+    let h = within-first _ (c .before .before .before .before .before .loop .inv .1) (c .before .before .before .spot .given .1) in (omega arith, omega arith, search needs)
 
 next-element-requires : tie.Need-next-element-requires Inv-loop μ-loop
 next-element-requires c κs = search needs

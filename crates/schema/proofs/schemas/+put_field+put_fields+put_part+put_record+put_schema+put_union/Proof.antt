@@ -62,22 +62,22 @@ use Rattle.schema.proofs.schemas.+put_field+put_fields+put_part+put_rec
 }
 
 abbrev μ-put-field : Measures 5 put-field-kinds.ps ℕ
-μ-put-field κs a = 4 * a .1 .1 .1 .1 .0 + 1
+μ-put-field κs a = 4 * a .1 .1 .1 .1 .1 .0 + 1
 
 abbrev μ-put-fields : Measures 5 put-fields-kinds.ps ℕ
-μ-put-fields κs a = 4 * a .1 .1 .1 .1 .0 + 2
+μ-put-fields κs a = 4 * a .1 .1 .1 .1 .1 .0 + 2
 
 abbrev μ-put-part : Measures 5 put-part-kinds.ps ℕ
-μ-put-part κs a = 4 * a .1 .1 .1 .1 .1 .1 .1 .1 .0 + 1
+μ-put-part κs a = 4 * a .1 .1 .1 .1 .1 .1 .1 .1 .1 .0 + 1
 
 abbrev μ-put-record : Measures 6 put-record-kinds.ps ℕ
 μ-put-record κs a = 4 * a .1 .1 .1 .1 .1 .1 .1 .1 .1 .1 .1 .0 + 3
 
 abbrev μ-put-schema : Measures 5 put-schema-kinds.ps ℕ
-μ-put-schema κs a = 4 * a .1 .1 .1 .1 .1 .0
+μ-put-schema κs a = 4 * a .1 .1 .1 .1 .1 .1 .0
 
 abbrev μ-put-union : Measures 5 put-union-kinds.ps ℕ
-μ-put-union κs a = 4 * a .1 .1 .1 .1 .1 .0 + 1
+μ-put-union κs a = 4 * a .1 .1 .1 .1 .1 .1 .0 + 1
 
 abbrev put-field-at : ℕ → In 5 put-field-kinds.ps
 put-field-at t = and 5 put-field-kinds.ps (is 5 put-field-kinds.ps μ-put-field t) put-field.Pre
@@ -154,7 +154,7 @@ put-field-members-at-requires t c κs = search needs
 
 put-field-put-field-head-requires : (t : ℕ) → put-field-lts.Need-put-field-head-requires (put-field-calls t) (put-field-at t) put-field.Post
 put-field-put-field-head-requires t c κs =
-    let b = c .before .before .before .before .before .before .before .before .pre .1 .deep in (c .before .before .before .before .before .before .before .before .pre .1 .short, omega arith)
+    let b = c .before .before .before .before .before .before .before .before .before .pre .1 .0 .deep in (c .before .before .before .before .before .before .before .before .before .pre .1 .0 .short, omega arith, c .before .before .before .before .before .before .before .before .before .pre .1 .1)
 
 put-field-enum-known-f : (t : ℕ) → put-field-lts.Need-enum-known-f (put-field-calls t) (put-field-at t) put-field.Post
 put-field-enum-known-f t c = search needs
@@ -177,7 +177,7 @@ put-field-returns-2 t c =
 
 put-field-add-put-schema : (t : ℕ) → put-field-lts.Need-add-put-schema (put-field-calls t) (put-field-at t) put-field.Post
 put-field-add-put-schema t c =
-    let b = c .before .before .before .before .before .before .before .before .before .before .before .before .before .before .before .before .before .pre .1 .deep in omega arith
+    let b = c .before .before .before .before .before .before .before .before .before .before .before .before .before .before .before .before .before .before .pre .1 .0 .deep in omega arith
 
 put-field-put-schema-requires : (t : ℕ) → put-field-lts.Need-put-schema-requires (put-field-calls t) (put-field-at t) put-field.Post
 put-field-put-schema-requires t c κs =
@@ -195,16 +195,16 @@ put-field-same-length-3 t c = search needs
 
 put-field-returns-4 : (t : ℕ) → put-field-lts.Need-returns-4 (put-field-calls t) (put-field-at t) put-field.Post
 put-field-returns-4 t c =
-    did-eq (element-field _ _ _ _ (c .before .before .before .before .before .before .before .before .before .before .before .before .before .before .before .before .before .before .before .is-object .ensures) (not-false _ (c .before .before .before .before .before .before .before .before .before .before .before .before .before .before .before .before .before .before .if1 .left))) (field-typed _ _ _ _ (c .before .before .before .before .before .before .before .before .before .before .before .before .before .before .before .before .before .members-at .ensures) (c .before .before .before .before .before .before .before .before .before .before .before .before .before .before .put-field-head .ensures) (c .before .before .before .before .before .before .before .before .before .before .next .given .1) (c .before .before .before .before .before .before .before .typed .given .1) (c .before .before .put-schema .ensures))
+    did-eq (element-field _ _ _ _ (c .before .before .before .before .before .before .before .before .before .before .before .before .before .before .before .before .before .before .is-object .ensures) (not-false _ (c .before .before .before .before .before .before .before .before .before .before .before .before .before .before .before .before .before .if1 .left))) (field-typed _ _ _ _ (c .before .before .before .before .before .before .before .before .before .before .before .before .before .before .before .before .members-at .ensures) (c .before .before .before .before .before .before .before .before .before .before .before .before .before .put-field-head .ensures) (c .before .before .before .before .before .before .before .before .before .next .given .1) (c .before .before .before .before .before .before .typed .given .1) (c .before .before .put-schema .ensures))
 
 abbrev put-fields-Inv-loop : put-fields-lts.InvT-loop
-put-fields-Inv-loop text namespace array depth left draft₀ word₀ space₀ sum₀ spot₀ draft word space sum spot =
+put-fields-Inv-loop text ends namespace array depth left draft₀ word₀ sum₀ spot₀ draft word sum spot =
     (length draft ≡ length draft₀)
     × ((m : List ℕ) (r : Walked) → Did draft sum m r (each (fieldRows (schemaOf left text (within namespace)) text depth) (objectsAmong text (elementsAt text spot)))
     → Did draft₀ sum₀ m r (each (fieldRows (schemaOf left text (within namespace)) text depth) (objectsAmong text (elementsAt text spot₀))))
 
 abbrev put-fields-μ-loop : put-fields-lts.MeasureT-loop
-put-fields-μ-loop text namespace array depth left draft₀ word₀ space₀ sum₀ spot₀ draft word space sum spot = length (elementsAt text spot)
+put-fields-μ-loop text ends namespace array depth left draft₀ word₀ sum₀ spot₀ draft word sum spot = length (elementsAt text spot)
 
 put-fields-first-element-requires : (t : ℕ) → put-fields-lts.Need-first-element-requires (put-fields-calls t) (put-fields-at t) put-fields.Post put-fields-Inv-loop put-fields-μ-loop
 put-fields-first-element-requires t c κs = search needs
@@ -226,7 +226,7 @@ put-fields-same-length t c = search needs
 
 put-fields-returns : (t : ℕ) → put-fields-lts.Need-returns (put-fields-calls t) (put-fields-at t) put-fields.Post put-fields-Inv-loop put-fields-μ-loop
 put-fields-returns t c =
-    fields-end _ _ _ _ (c .before .before .before .before .first-element .ensures) (c .before .before .before .loop .inv .1 _ _ (did-eq (fields-done _ _ _ (c .before .enum-told .given .1)) (did-none _ _))) (c .named-apart .ensures)
+    fields-end _ _ _ _ (c .before .before .before .before .before .first-element .ensures) (c .before .before .before .before .loop .inv .1 _ _ (did-eq (fields-done _ _ _ (c .before .before .enum-told .given .1)) (did-none _ _))) (c .named-apart .ensures)
 
 put-fields-put-field-requires : (t : ℕ) → put-fields-lts.Need-put-field-requires (put-fields-calls t) (put-fields-at t) put-fields.Post put-fields-Inv-loop put-fields-μ-loop
 put-fields-put-field-requires t c κs =
@@ -240,7 +240,7 @@ put-fields-same-length-2 t c = search needs
 
 put-fields-returns-2 : (t : ℕ) → put-fields-lts.Need-returns-2 (put-fields-calls t) (put-fields-at t) put-fields.Post put-fields-Inv-loop put-fields-μ-loop
 put-fields-returns-2 t c =
-    fields-bad _ _ _ _ (c .before .before .before .before .before .before .before .before .before .before .before .before .before .first-element .ensures) (c .before .before .before .before .before .before .before .before .before .before .before .before .loop .inv .1 _ _ (did-eq (fields-next _ _ _ (c .before .before .before .before .before .before .before .before .before .before .spot .given .1) refl) (did-stop _ _ (c .before .before .before .before .before .put-field .ensures) (c .before .f .given .1))))
+    fields-bad _ _ _ _ (c .before .before .before .before .before .before .before .before .before .before .before .before .first-element .ensures) (c .before .before .before .before .before .before .before .before .before .before .before .loop .inv .1 _ _ (did-eq (fields-next _ _ _ (c .before .before .before .before .before .before .before .before .before .spot .given .1) refl) (did-stop _ _ (c .before .before .before .before .before .put-field .ensures) (c .before .f .given .1))))
 
 put-fields-enum-known-next : (t : ℕ) → put-fields-lts.Need-enum-known-next (put-fields-calls t) (put-fields-at t) put-fields.Post put-fields-Inv-loop put-fields-μ-loop
 put-fields-enum-known-next t c = search needs
@@ -250,11 +250,11 @@ put-fields-next-element-requires t c κs = search needs
 
 put-fields-loop-less : (t : ℕ) → put-fields-lts.Need-loop-less (put-fields-calls t) (put-fields-at t) put-fields.Post put-fields-Inv-loop put-fields-μ-loop
 put-fields-loop-less t c =
-    visit-less _ (c .before .before .before .before .before .before .before .before .before .before .before .spot .given .1) (c .next-element .ensures)
+    visit-less _ (c .before .before .before .before .before .before .before .before .before .before .spot .given .1) (c .next-element .ensures)
 
 put-fields-loop-again : (t : ℕ) → put-fields-lts.Need-loop-again (put-fields-calls t) (put-fields-at t) put-fields.Post put-fields-Inv-loop put-fields-μ-loop
 put-fields-loop-again t c =
-    (search needs, λ m r d. c .before .before .before .before .before .before .before .before .before .before .before .before .before .loop .inv .1 m r (did-eq (fields-next _ _ _ (c .before .before .before .before .before .before .before .before .before .before .before .spot .given .1) (c .next-element .ensures)) (did-then _ _ (c .before .before .before .before .before .before .put-field .ensures) (c .before .before .next .given .1) d)))
+    (search needs, λ m r d. c .before .before .before .before .before .before .before .before .before .before .before .before .loop .inv .1 m r (did-eq (fields-next _ _ _ (c .before .before .before .before .before .before .before .before .before .before .spot .given .1) (c .next-element .ensures)) (did-then _ _ (c .before .before .before .before .before .before .put-field .ensures) (c .before .before .next .given .1) d)))
 
 put-part-new-kind-requires : (t : ℕ) → put-part-lts.Need-new-kind-requires (put-part-calls t) (put-part-at t) put-part.Post
 put-part-new-kind-requires t c κs = search needs
@@ -284,26 +284,26 @@ put-part-slice-aggregate-put t c = search needs
 
 put-part-put-requires : (t : ℕ) → put-part-lts.Need-put-requires (put-part-calls t) (put-part-at t) put-part.Post
 put-part-put-requires t c κs =
-    c .before .before .before .before .before .before .before .before .before .before .before .pre .1 .1
+    c .before .before .before .before .before .before .before .before .before .before .before .before .pre .1 .1
 
 put-part-add-put-schema : (t : ℕ) → put-part-lts.Need-add-put-schema (put-part-calls t) (put-part-at t) put-part.Post
 put-part-add-put-schema t c =
-    let b = c .before .before .before .before .before .before .before .before .before .before .before .before .before .before .pre .1 .0 .deep in omega arith
+    let b = c .before .before .before .before .before .before .before .before .before .before .before .before .before .before .before .pre .1 .0 .deep in omega arith
 
 put-part-put-schema-requires : (t : ℕ) → put-part-lts.Need-put-schema-requires (put-part-calls t) (put-part-at t) put-part.Post
 put-part-put-schema-requires t c κs =
-    (omega arith, c .before .before .before .before .before .before .before .before .before .before .before .before .before .before .before .before .before .pre .1 .0)
+    (omega arith, (c .before .before .before .before .before .before .before .before .before .before .before .before .before .before .before .before .before .pre .1 .0, c .before .before .before .before .before .before .before .before .before .before .before .before .before .before .before .before .before .pre .1 .2))
 
 put-part-same-length : (t : ℕ) → put-part-lts.Need-same-length (put-part-calls t) (put-part-at t) put-part.Post
 put-part-same-length t c = search needs
 
 put-part-returns-3 : (t : ℕ) → put-part-lts.Need-returns-3 (put-part-calls t) (put-part-at t) put-part.Post
 put-part-returns-3 t c =
-    part-one _ _ _ _ _ _ _ _ _ (c .before .before .before .before .before .before .before .before .before .before .before .before .before .before .before .before .new-kind .ensures) (c .before .before .before .before .before .before .before .before .before .before .before .before .before .before .enum-told .given .1) (c .before .before .before .before .before .before .before .before .before .before .before .before .part .given .1) (c .before .before .before .before .before .before .before .before .put .ensures) (c .before .before .put-schema .ensures)
+    part-one _ _ _ _ _ _ _ _ _ (c .before .before .before .before .before .before .before .before .before .before .before .before .before .before .before .new-kind .ensures) (c .before .before .before .before .before .before .before .before .before .before .before .before .before .enum-told .given .1) (c .before .before .before .before .before .before .before .before .before .before .before .part .given .1) (c .before .before .before .before .before .before .before .put .ensures) (c .before .before .put-schema .ensures)
 
 put-record-define-requires : (t : ℕ) → put-record-lts.Need-define-requires (put-record-calls t) (put-record-at t) put-record.Post
 put-record-define-requires t c κs =
-    let b = c .before .before .before .before .before .before .before .pre .1 .deep in (c .before .before .before .before .before .before .before .pre .1 .short, omega arith)
+    let b = c .before .before .before .before .before .before .before .pre .1 .0 .deep in (c .before .before .before .before .before .before .before .pre .1 .0 .short, omega arith, c .before .before .before .before .before .before .before .pre .1 .1)
 
 put-record-enum-known-f : (t : ℕ) → put-record-lts.Need-enum-known-f (put-record-calls t) (put-record-at t) put-record.Post
 put-record-enum-known-f t c = search needs
@@ -342,11 +342,11 @@ put-record-namespace-part-requires t c κs = search needs
 
 put-record-add-put-fields : (t : ℕ) → put-record-lts.Need-add-put-fields (put-record-calls t) (put-record-at t) put-record.Post
 put-record-add-put-fields t c =
-    let b = c .before .before .before .before .before .before .before .before .before .before .before .before .before .before .before .before .before .before .before .before .before .pre .1 .deep in omega arith
+    let b = c .before .before .before .before .before .before .before .before .before .before .before .before .before .before .before .before .before .before .before .before .before .pre .1 .0 .deep in omega arith
 
 put-record-put-fields-requires : (t : ℕ) → put-record-lts.Need-put-fields-requires (put-record-calls t) (put-record-at t) put-record.Post
 put-record-put-fields-requires t c κs =
-    let b = c .before .before .before .before .before .before .before .before .before .before .before .before .before .before .before .before .before .before .before .before .before .before .before .before .pre .1 .deep in (omega arith, record { short = c .before .before .before .before .before .before .before .before .before .before .before .before .before .before .before .before .before .before .before .before .before .before .before .before .pre .1 .short; deep = omega arith })
+    let b = c .before .before .before .before .before .before .before .before .before .before .before .before .before .before .before .before .before .before .before .before .before .before .before .pre .1 .0 .deep in (omega arith, (record { short = c .before .before .before .before .before .before .before .before .before .before .before .before .before .before .before .before .before .before .before .before .before .before .before .pre .1 .0 .short; deep = omega arith }, c .before .before .before .before .before .before .before .before .before .before .before .before .before .before .before .before .before .before .before .before .before .before .before .pre .1 .1))
 
 put-record-same-length-2 : (t : ℕ) → put-record-lts.Need-same-length-2 (put-record-calls t) (put-record-at t) put-record.Post
 put-record-same-length-2 t c = search needs
@@ -360,7 +360,7 @@ put-record-same-length-3 t c = search needs
 
 put-record-returns-3 : (t : ℕ) → put-record-lts.Need-returns-3 (put-record-calls t) (put-record-at t) put-record.Post
 put-record-returns-3 t c =
-    record-fields _ _ _ _ _ _ _ (c .before .before .before .before .before .before .before .before .before .before .before .before .before .before .before .before .before .before .before .define .ensures) (c .before .before .before .before .before .before .before .before .before .before .before .before .before .before .before .n .given .1) (c .before .before .before .before .before .before .before .before .before .before .before .before .before .as-array .ensures) (c .before .before .before .before .before .before .before .before .before .before .before .v .given .1) (c .before .before .before .before .before .before .namespace-part .ensures) (c .before .before .put-fields .ensures)
+    record-fields _ _ _ _ _ _ _ (c .before .before .before .before .before .before .before .before .before .before .before .before .before .before .before .before .before .before .define .ensures) (c .before .before .before .before .before .before .before .before .before .before .before .before .before .before .n .given .1) (c .before .before .before .before .before .before .before .before .before .before .before .before .as-array .ensures) (c .before .before .before .before .before .before .before .before .before .before .v .given .1) (c .before .before .before .before .before .namespace-part .ensures) (c .before .before .put-fields .ensures)
 
 put-schema-returns : (t : ℕ) → put-schema-lts.Need-returns (put-schema-calls t) (put-schema-at t) put-schema.Post
 put-schema-returns t c = did-eq (schema-deep _ _ _ _ _ (c .if1 .taken)) (did-bad _ _ _ _)
@@ -379,49 +379,49 @@ put-schema-enum-known-form-2 t c = search needs
 
 put-schema-put-word-requires : (t : ℕ) → put-schema-lts.Need-put-word-requires (put-schema-calls t) (put-schema-at t) put-schema.Post
 put-schema-put-word-requires t c κs =
-    c .before .before .before .before .before .before .before .before .before .before .before .before .before .pre .1 .short
+    (c .before .before .before .before .before .before .before .before .before .before .before .before .before .pre .1 .0 .short, c .before .before .before .before .before .before .before .before .before .before .before .before .before .pre .1 .1)
 
 put-schema-enum-known-form-3 : (t : ℕ) → put-schema-lts.Need-enum-known-form-3 (put-schema-calls t) (put-schema-at t) put-schema.Post
 put-schema-enum-known-form-3 t c = search needs
 
 put-schema-put-part-requires : (t : ℕ) → put-schema-lts.Need-put-part-requires (put-schema-calls t) (put-schema-at t) put-schema.Post
 put-schema-put-part-requires t c κs =
-    let h = array-within _ _ (found-form _ _ (c .before .before .before .before .before .before .before .find .ensures) (c .before .before .before .before .form3 .given .1)) in let a = c .before .before .before .before .before .before .before .before .before .before .before .before .pre .1 .short in (omega arith, (record { short = c .before .before .before .before .before .before .before .before .before .before .before .before .pre .1 .short; deep = let b = c .before .before .before .before .before .before .before .before .before .before .before .before .pre .1 .deep in omega arith }, omega arith))
+    let h = array-within _ _ (found-form _ _ (c .before .before .before .before .before .before .find .ensures) (c .before .before .before .form3 .given .1)) in let a = c .before .before .before .before .before .before .before .before .before .before .before .before .pre .1 .0 .short in (omega arith, (record { short = c .before .before .before .before .before .before .before .before .before .before .before .before .pre .1 .0 .short; deep = let b = c .before .before .before .before .before .before .before .before .before .before .before .before .pre .1 .0 .deep in omega arith }, omega arith, c .before .before .before .before .before .before .before .before .before .before .before .before .pre .1 .1))
 
 put-schema-enum-known-form-4 : (t : ℕ) → put-schema-lts.Need-enum-known-form-4 (put-schema-calls t) (put-schema-at t) put-schema.Post
 put-schema-enum-known-form-4 t c = search needs
 
 put-schema-put-part-requires-2 : (t : ℕ) → put-schema-lts.Need-put-part-requires-2 (put-schema-calls t) (put-schema-at t) put-schema.Post
 put-schema-put-part-requires-2 t c κs =
-    let h = map-within _ _ (found-form _ _ (c .before .before .before .before .before .before .before .find .ensures) (c .before .before .before .before .form4 .given .1)) in let a = c .before .before .before .before .before .before .before .before .before .before .before .before .pre .1 .short in (omega arith, (record { short = c .before .before .before .before .before .before .before .before .before .before .before .before .pre .1 .short; deep = let b = c .before .before .before .before .before .before .before .before .before .before .before .before .pre .1 .deep in omega arith }, omega arith))
+    let h = map-within _ _ (found-form _ _ (c .before .before .before .before .before .before .find .ensures) (c .before .before .before .form4 .given .1)) in let a = c .before .before .before .before .before .before .before .before .before .before .before .before .pre .1 .0 .short in (omega arith, (record { short = c .before .before .before .before .before .before .before .before .before .before .before .before .pre .1 .0 .short; deep = let b = c .before .before .before .before .before .before .before .before .before .before .before .before .pre .1 .0 .deep in omega arith }, omega arith, c .before .before .before .before .before .before .before .before .before .before .before .before .pre .1 .1))
 
 put-schema-enum-known-form-5 : (t : ℕ) → put-schema-lts.Need-enum-known-form-5 (put-schema-calls t) (put-schema-at t) put-schema.Post
 put-schema-enum-known-form-5 t c = search needs
 
 put-schema-put-union-requires : (t : ℕ) → put-schema-lts.Need-put-union-requires (put-schema-calls t) (put-schema-at t) put-schema.Post
 put-schema-put-union-requires t c κs =
-    let h = union-within _ _ (found-form _ _ (c .before .before .before .before .before .before .before .find .ensures) (c .before .before .before .before .form5 .given .1)) in let a = c .before .before .before .before .before .before .before .before .before .before .before .before .pre .1 .short in (omega arith, (record { short = c .before .before .before .before .before .before .before .before .before .before .before .before .pre .1 .short; deep = let b = c .before .before .before .before .before .before .before .before .before .before .before .before .pre .1 .deep in omega arith }, omega arith))
+    let h = union-within _ _ (found-form _ _ (c .before .before .before .before .before .before .find .ensures) (c .before .before .before .form5 .given .1)) in let a = c .before .before .before .before .before .before .before .before .before .before .before .before .pre .1 .0 .short in (omega arith, (record { short = c .before .before .before .before .before .before .before .before .before .before .before .before .pre .1 .0 .short; deep = let b = c .before .before .before .before .before .before .before .before .before .before .before .before .pre .1 .0 .deep in omega arith }, omega arith, c .before .before .before .before .before .before .before .before .before .before .before .before .pre .1 .1))
 
 put-schema-enum-known-form-6 : (t : ℕ) → put-schema-lts.Need-enum-known-form-6 (put-schema-calls t) (put-schema-at t) put-schema.Post
 put-schema-enum-known-form-6 t c = search needs
 
 put-schema-put-record-requires : (t : ℕ) → put-schema-lts.Need-put-record-requires (put-schema-calls t) (put-schema-at t) put-schema.Post
 put-schema-put-record-requires t c κs =
-    (omega arith, record { short = c .before .before .before .before .before .before .before .before .before .before .before .before .before .pre .1 .short; deep = let b = c .before .before .before .before .before .before .before .before .before .before .before .before .before .pre .1 .deep in omega arith })
+    (omega arith, (record { short = c .before .before .before .before .before .before .before .before .before .before .before .before .before .pre .1 .0 .short; deep = let b = c .before .before .before .before .before .before .before .before .before .before .before .before .before .pre .1 .0 .deep in omega arith }, c .before .before .before .before .before .before .before .before .before .before .before .before .before .pre .1 .1))
 
 put-schema-enum-known-form-7 : (t : ℕ) → put-schema-lts.Need-enum-known-form-7 (put-schema-calls t) (put-schema-at t) put-schema.Post
 put-schema-enum-known-form-7 t c = search needs
 
 put-schema-put-enum-requires : (t : ℕ) → put-schema-lts.Need-put-enum-requires (put-schema-calls t) (put-schema-at t) put-schema.Post
 put-schema-put-enum-requires t c κs =
-    let b = c .before .before .before .before .before .before .before .before .before .before .before .before .pre .1 .deep in (c .before .before .before .before .before .before .before .before .before .before .before .before .pre .1 .short, omega arith)
+    let b = c .before .before .before .before .before .before .before .before .before .before .before .before .pre .1 .0 .deep in (c .before .before .before .before .before .before .before .before .before .before .before .before .pre .1 .0 .short, omega arith, c .before .before .before .before .before .before .before .before .before .before .before .before .pre .1 .1)
 
 put-schema-enum-known-form-8 : (t : ℕ) → put-schema-lts.Need-enum-known-form-8 (put-schema-calls t) (put-schema-at t) put-schema.Post
 put-schema-enum-known-form-8 t c = search needs
 
 put-schema-put-fixed-requires : (t : ℕ) → put-schema-lts.Need-put-fixed-requires (put-schema-calls t) (put-schema-at t) put-schema.Post
 put-schema-put-fixed-requires t c κs =
-    let b = c .before .before .before .before .before .before .before .before .before .before .before .before .pre .1 .deep in (c .before .before .before .before .before .before .before .before .before .before .before .before .pre .1 .short, omega arith)
+    let b = c .before .before .before .before .before .before .before .before .before .before .before .before .pre .1 .0 .deep in (c .before .before .before .before .before .before .before .before .before .before .before .before .pre .1 .0 .short, omega arith, c .before .before .before .before .before .before .before .before .before .before .before .before .pre .1 .1)
 
 put-schema-returns-2 : (t : ℕ) → put-schema-lts.Need-returns-2 (put-schema-calls t) (put-schema-at t) put-schema.Post
 put-schema-returns-2 t c =
@@ -432,58 +432,58 @@ put-schema-same-length t c = search needs
 
 put-schema-returns-3 : (t : ℕ) → put-schema-lts.Need-returns-3 (put-schema-calls t) (put-schema-at t) put-schema.Post
 put-schema-returns-3 t c =
-    did-eq (schema-word _ _ _ _ _ (c .before .before .before .before .before .before .before .before .before .before .before .before .if1 .left) (c .before .before .before .before .before .before .before .before .before .before .before .find .ensures) (c .before .before .before .before .before .before .before .before .form2 .given .1)) (c .before .before .put-word .ensures)
+    did-eq (schema-word _ _ _ _ _ (c .before .before .before .before .before .before .before .before .before .before .before .if1 .left) (c .before .before .before .before .before .before .before .before .before .before .find .ensures) (c .before .before .before .before .before .before .before .form2 .given .1)) (c .before .before .put-word .ensures)
 
 put-schema-same-length-2 : (t : ℕ) → put-schema-lts.Need-same-length-2 (put-schema-calls t) (put-schema-at t) put-schema.Post
 put-schema-same-length-2 t c = search needs
 
 put-schema-returns-4 : (t : ℕ) → put-schema-lts.Need-returns-4 (put-schema-calls t) (put-schema-at t) put-schema.Post
 put-schema-returns-4 t c =
-    did-eq (schema-array _ _ _ _ _ (c .before .before .before .before .before .before .before .before .before .before .before .if1 .left) (c .before .before .before .before .before .before .before .before .before .before .find .ensures) (c .before .before .before .before .before .before .before .form3 .given .1)) (c .before .before .put-part .ensures)
+    did-eq (schema-array _ _ _ _ _ (c .before .before .before .before .before .before .before .before .before .before .if1 .left) (c .before .before .before .before .before .before .before .before .before .find .ensures) (c .before .before .before .before .before .before .form3 .given .1)) (c .before .before .put-part .ensures)
 
 put-schema-same-length-3 : (t : ℕ) → put-schema-lts.Need-same-length-3 (put-schema-calls t) (put-schema-at t) put-schema.Post
 put-schema-same-length-3 t c = search needs
 
 put-schema-returns-5 : (t : ℕ) → put-schema-lts.Need-returns-5 (put-schema-calls t) (put-schema-at t) put-schema.Post
 put-schema-returns-5 t c =
-    did-eq (schema-map _ _ _ _ _ (c .before .before .before .before .before .before .before .before .before .before .before .if1 .left) (c .before .before .before .before .before .before .before .before .before .before .find .ensures) (c .before .before .before .before .before .before .before .form4 .given .1)) (c .before .before .put-part2 .ensures)
+    did-eq (schema-map _ _ _ _ _ (c .before .before .before .before .before .before .before .before .before .before .if1 .left) (c .before .before .before .before .before .before .before .before .before .find .ensures) (c .before .before .before .before .before .before .form4 .given .1)) (c .before .before .put-part2 .ensures)
 
 put-schema-same-length-4 : (t : ℕ) → put-schema-lts.Need-same-length-4 (put-schema-calls t) (put-schema-at t) put-schema.Post
 put-schema-same-length-4 t c = search needs
 
 put-schema-returns-6 : (t : ℕ) → put-schema-lts.Need-returns-6 (put-schema-calls t) (put-schema-at t) put-schema.Post
 put-schema-returns-6 t c =
-    did-eq (schema-union _ _ _ _ _ (c .before .before .before .before .before .before .before .before .before .before .before .if1 .left) (c .before .before .before .before .before .before .before .before .before .before .find .ensures) (c .before .before .before .before .before .before .before .form5 .given .1)) (c .before .before .put-union .ensures)
+    did-eq (schema-union _ _ _ _ _ (c .before .before .before .before .before .before .before .before .before .before .if1 .left) (c .before .before .before .before .before .before .before .before .before .find .ensures) (c .before .before .before .before .before .before .form5 .given .1)) (c .before .before .put-union .ensures)
 
 put-schema-same-length-5 : (t : ℕ) → put-schema-lts.Need-same-length-5 (put-schema-calls t) (put-schema-at t) put-schema.Post
 put-schema-same-length-5 t c = search needs
 
 put-schema-returns-7 : (t : ℕ) → put-schema-lts.Need-returns-7 (put-schema-calls t) (put-schema-at t) put-schema.Post
 put-schema-returns-7 t c =
-    did-eq (schema-record _ _ _ _ _ (c .before .before .before .before .before .before .before .before .before .before .before .before .if1 .left) (c .before .before .before .before .before .before .before .before .before .before .before .find .ensures) (c .before .before .before .before .before .before .before .before .form6 .given .1)) (c .before .before .put-record .ensures)
+    did-eq (schema-record _ _ _ _ _ (c .before .before .before .before .before .before .before .before .before .before .before .if1 .left) (c .before .before .before .before .before .before .before .before .before .before .find .ensures) (c .before .before .before .before .before .before .before .form6 .given .1)) (c .before .before .put-record .ensures)
 
 put-schema-same-length-6 : (t : ℕ) → put-schema-lts.Need-same-length-6 (put-schema-calls t) (put-schema-at t) put-schema.Post
 put-schema-same-length-6 t c = search needs
 
 put-schema-returns-8 : (t : ℕ) → put-schema-lts.Need-returns-8 (put-schema-calls t) (put-schema-at t) put-schema.Post
 put-schema-returns-8 t c =
-    did-eq (schema-enum _ _ _ _ _ (c .before .before .before .before .before .before .before .before .before .before .before .if1 .left) (c .before .before .before .before .before .before .before .before .before .before .find .ensures) (c .before .before .before .before .before .before .before .form7 .given .1)) (c .before .before .put-enum .ensures)
+    did-eq (schema-enum _ _ _ _ _ (c .before .before .before .before .before .before .before .before .before .before .if1 .left) (c .before .before .before .before .before .before .before .before .before .find .ensures) (c .before .before .before .before .before .before .form7 .given .1)) (c .before .before .put-enum .ensures)
 
 put-schema-same-length-7 : (t : ℕ) → put-schema-lts.Need-same-length-7 (put-schema-calls t) (put-schema-at t) put-schema.Post
 put-schema-same-length-7 t c = search needs
 
 put-schema-returns-9 : (t : ℕ) → put-schema-lts.Need-returns-9 (put-schema-calls t) (put-schema-at t) put-schema.Post
 put-schema-returns-9 t c =
-    did-eq (schema-fixed _ _ _ _ _ (c .before .before .before .before .before .before .before .before .before .before .before .if1 .left) (c .before .before .before .before .before .before .before .before .before .before .find .ensures) (c .before .before .before .before .before .before .before .form8 .given .1)) (c .before .before .put-fixed .ensures)
+    did-eq (schema-fixed _ _ _ _ _ (c .before .before .before .before .before .before .before .before .before .before .if1 .left) (c .before .before .before .before .before .before .before .before .before .find .ensures) (c .before .before .before .before .before .before .form8 .given .1)) (c .before .before .put-fixed .ensures)
 
 abbrev put-union-Inv-loop : put-union-lts.InvT-loop
-put-union-Inv-loop text namespace at depth left draft₀ word₀ space₀ sum₀ spot₀ draft word space sum spot =
+put-union-Inv-loop text ends namespace at depth left draft₀ word₀ sum₀ spot₀ draft word sum spot =
     (length draft ≡ length draft₀)
     × ((m : List ℕ) (r : Walked) → Did draft sum m r (each (member (schemaOf left text) namespace depth at) (elementsAt text spot))
     → Did draft₀ sum₀ m r (each (member (schemaOf left text) namespace depth at) (elementsAt text spot₀)))
 
 abbrev put-union-μ-loop : put-union-lts.MeasureT-loop
-put-union-μ-loop text namespace at depth left draft₀ word₀ space₀ sum₀ spot₀ draft word space sum spot = length (elementsAt text spot)
+put-union-μ-loop text ends namespace at depth left draft₀ word₀ sum₀ spot₀ draft word sum spot = length (elementsAt text spot)
 
 put-union-new-kind-requires : (t : ℕ) → put-union-lts.Need-new-kind-requires (put-union-calls t) (put-union-at t) put-union.Post put-union-Inv-loop put-union-μ-loop
 put-union-new-kind-requires t c κs = search needs
@@ -502,7 +502,7 @@ put-union-slice-aggregate-put : (t : ℕ) → put-union-lts.Need-slice-aggregate
 put-union-slice-aggregate-put t c = search needs
 
 put-union-put-requires : (t : ℕ) → put-union-lts.Need-put-requires (put-union-calls t) (put-union-at t) put-union.Post put-union-Inv-loop put-union-μ-loop
-put-union-put-requires t c κs = c .before .before .before .before .before .before .before .before .pre .1 .1
+put-union-put-requires t c κs = c .before .before .before .before .before .before .before .before .before .pre .1 .1
 
 put-union-first-element-requires : (t : ℕ) → put-union-lts.Need-first-element-requires (put-union-calls t) (put-union-at t) put-union.Post put-union-Inv-loop put-union-μ-loop
 put-union-first-element-requires t c κs = search needs
@@ -525,11 +525,11 @@ put-union-returns-2 t c =
 
 put-union-add-put-schema : (t : ℕ) → put-union-lts.Need-add-put-schema (put-union-calls t) (put-union-at t) put-union.Post put-union-Inv-loop put-union-μ-loop
 put-union-add-put-schema t c =
-    let b = c .before .before .before .before .before .before .before .before .before .before .before .before .before .before .before .before .pre .1 .0 .deep in omega arith
+    let b = c .before .before .before .before .before .before .before .before .before .before .before .before .before .before .before .before .before .pre .1 .0 .deep in omega arith
 
 put-union-put-schema-requires : (t : ℕ) → put-union-lts.Need-put-schema-requires (put-union-calls t) (put-union-at t) put-union.Post put-union-Inv-loop put-union-μ-loop
 put-union-put-schema-requires t c κs =
-    (omega arith, c .before .before .before .before .before .before .before .before .before .before .before .before .before .before .before .before .before .before .before .pre .1 .0)
+    (omega arith, (c .before .before .before .before .before .before .before .before .before .before .before .before .before .before .before .before .before .before .before .pre .1 .0, c .before .before .before .before .before .before .before .before .before .before .before .before .before .before .before .before .before .before .before .pre .1 .2))
 
 put-union-enum-known-f-2 : (t : ℕ) → put-union-lts.Need-enum-known-f-2 (put-union-calls t) (put-union-at t) put-union.Post put-union-Inv-loop put-union-μ-loop
 put-union-enum-known-f-2 t c = search needs
@@ -539,21 +539,21 @@ put-union-same-length-2 t c = search needs
 
 put-union-returns-3 : (t : ℕ) → put-union-lts.Need-returns-3 (put-union-calls t) (put-union-at t) put-union.Post put-union-Inv-loop put-union-μ-loop
 put-union-returns-3 t c =
-    union-rows _ _ _ _ _ _ (c .before .before .before .before .before .before .before .before .before .before .before .before .before .before .before .before .before .before .before .before .before .new-kind .ensures) (c .before .before .before .before .before .before .before .before .before .before .before .before .before .before .before .before .before .before .before .enum-told .given .1) (c .before .before .before .before .before .before .before .before .before .before .before .before .before .before .before .before .put .ensures) (c .before .before .before .before .before .before .before .before .before .before .before .before .before .first-element .ensures) (c .before .before .before .before .before .before .before .before .before .before .before .before .loop .inv .1 _ _ (did-eq (each-next _ _ (c .before .before .before .before .before .before .before .before .before .before .spot .given .1) refl) (did-stop _ _ (c .before .before .before .before .before .put-schema .ensures) (c .before .f2 .given .1))))
+    union-rows _ _ _ _ _ _ (c .before .before .before .before .before .before .before .before .before .before .before .before .before .before .before .before .before .before .before .before .new-kind .ensures) (c .before .before .before .before .before .before .before .before .before .before .before .before .before .before .before .before .before .before .enum-told .given .1) (c .before .before .before .before .before .before .before .before .before .before .before .before .before .before .before .put .ensures) (c .before .before .before .before .before .before .before .before .before .before .before .before .first-element .ensures) (c .before .before .before .before .before .before .before .before .before .before .before .loop .inv .1 _ _ (did-eq (each-next _ _ (c .before .before .before .before .before .before .before .before .before .spot .given .1) refl) (did-stop _ _ (c .before .before .before .before .before .put-schema .ensures) (c .before .f2 .given .1))))
 
 put-union-enum-known-next : (t : ℕ) → put-union-lts.Need-enum-known-next (put-union-calls t) (put-union-at t) put-union.Post put-union-Inv-loop put-union-μ-loop
 put-union-enum-known-next t c = search needs
 
 put-union-next-element-requires : (t : ℕ) → put-union-lts.Need-next-element-requires (put-union-calls t) (put-union-at t) put-union.Post put-union-Inv-loop put-union-μ-loop
-put-union-next-element-requires t c κs = search needs
+put-union-next-element-requires t c κs = c .before .before .before .before .before .before .before .before .before .before .before .before .before .before .before .before .before .before .before .before .before .before .before .before .before .pre .1 .2
 
 put-union-loop-less : (t : ℕ) → put-union-lts.Need-loop-less (put-union-calls t) (put-union-at t) put-union.Post put-union-Inv-loop put-union-μ-loop
 put-union-loop-less t c =
-    visit-less _ (c .before .before .before .before .before .before .before .before .before .before .before .spot .given .1) (c .next-element .ensures)
+    visit-less _ (c .before .before .before .before .before .before .before .before .before .before .spot .given .1) (c .next-element .ensures)
 
 put-union-loop-again : (t : ℕ) → put-union-lts.Need-loop-again (put-union-calls t) (put-union-at t) put-union.Post put-union-Inv-loop put-union-μ-loop
 put-union-loop-again t c =
-    (search needs, λ m r d. c .before .before .before .before .before .before .before .before .before .before .before .before .before .loop .inv .1 m r (did-eq (each-next _ _ (c .before .before .before .before .before .before .before .before .before .before .before .spot .given .1) (c .next-element .ensures)) (did-then _ _ (c .before .before .before .before .before .before .put-schema .ensures) (c .before .before .next .given .1) d)))
+    (search needs, λ m r d. c .before .before .before .before .before .before .before .before .before .before .before .before .loop .inv .1 m r (did-eq (each-next _ _ (c .before .before .before .before .before .before .before .before .before .before .spot .given .1) (c .next-element .ensures)) (did-then _ _ (c .before .before .before .before .before .before .put-schema .ensures) (c .before .before .next .given .1) d)))
 
 pub +put-field+put-fields+put-part+put-record+put-schema+put-union-spec :
     {M : Type 1} → statement M

@@ -16,11 +16,11 @@ decimal-note-requires c κs = search needs
 
 returns : tie.Need-returns
 returns c =
-    note-bytes (c .before .before .before .before .before .args .text .now) (c .before .before .before .before .before .args .kind) (c .before .before .before .before .before .args .members) (c .before .before .before .number .ensures) (c .before .before .number2 .ensures) (c .before .if1 .taken) (c .decimal-note .ensures)
+    note-bytes (c .before .before .before .before .before .before .args .text .now) (c .before .before .before .before .before .before .args .kind) (c .before .before .before .before .before .before .args .members) (c .before .before .before .number .ensures) (c .before .before .number2 .ensures) (c .before .if1 .taken) (c .decimal-note .ensures)
 
 returns-2 : tie.Need-returns-2
 returns-2 c =
-    note-other (c .before .before .before .before .args .text .now) (c .before .before .before .before .args .kind) (c .before .before .before .before .args .members) (c .before .before .number .ensures) (c .before .number2 .ensures) (c .if1 .left)
+    note-other (c .before .before .before .before .before .args .text .now) (c .before .before .before .before .before .args .kind) (c .before .before .before .before .before .args .members) (c .before .before .number .ensures) (c .before .number2 .ensures) (c .if1 .left)
 
 pub note-of-spec : {M : Type 1} → statement M
 note-of-spec =

@@ -25,11 +25,11 @@ same-length c = search needs
 
 returns : tie.Need-returns
 returns c =
-    did-eq (word-reference _ _ (c .before .before .before .before .before .before .before .before .before .before .word-kind .ensures) (c .before .before .before .before .before .before .before .before .before .number .ensures) (c .before .before .before .before .before .before .before .before .number2 .ensures) _ _ _ _ (c .before .before .before .before .before .before .before .if1 .taken)) (c .before .before .put-reference .ensures)
+    did-eq (word-reference _ _ (c .before .before .before .before .before .before .before .before .before .word-kind .ensures) (c .before .before .before .before .before .before .before .before .number .ensures) (c .before .before .before .before .before .before .before .number2 .ensures) _ _ _ _ (c .before .before .before .before .before .before .if1 .taken)) (c .before .before .put-reference .ensures)
 
 put-primitive-requires : tie.Need-put-primitive-requires
 put-primitive-requires c κs =
-    let h = word-within _ _ (word-other _ _ (c .before .before .before .before .word-kind .ensures) (c .before .before .before .number .ensures) (c .before .before .number2 .ensures) (c .before .if1 .left)) in omega arith
+    let h = word-within _ _ (word-other _ _ (c .before .before .before .before .word-kind .ensures) (c .before .before .before .number .ensures) (c .before .before .number2 .ensures) (c .before .if1 .left)) in (omega arith, search needs)
 
 same-length-2 : tie.Need-same-length-2
 same-length-2 c = search needs

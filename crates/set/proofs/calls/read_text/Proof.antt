@@ -12,7 +12,7 @@ same-length : tie.Need-same-length
 same-length c = search needs
 
 returns : tie.Need-returns
-returns c = wrote _ _ _ _ (c .before .before .before .before .before .before .pre) (c .before .before .declare .ensures) (c .before .before .declare .kept .1 .0)
+returns c = wrote _ _ _ (c .before .before .before .before .before .before .pre) (c .before .before .declare .ensures) (c .before .before .declare .kept .1 .0)
 
 pub read-text-spec : {M : Type 1} → statement M
 read-text-spec = tie.close (tie.spec declare-requires same-length returns)

@@ -1,6 +1,6 @@
 -- `set::calls::replace` meets its contract.
 -- Assumes nothing.
-use mathlib.Core.Path.{sym, _∙_}
+use mathlib.Core.Path.{refl, sym, _∙_}
 use Rattle.set.proofs.Places.{is-long}
 use Rattle.set.proofs.CallLaws.{replace-not, replace-place, replace-asks, replace-bad, replace-rows}
 use borrow.Author.Needs.{needs}
@@ -37,7 +37,7 @@ slice-aggregate-read-text : tie.Need-slice-aggregate-read-text
 slice-aggregate-read-text c = search needs
 
 read-text-requires : tie.Need-read-text-requires
-read-text-requires c κs = search needs
+read-text-requires c κs = refl
 
 enum-known-read : tie.Need-enum-known-read
 enum-known-read c = search needs

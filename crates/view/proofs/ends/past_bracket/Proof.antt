@@ -6,7 +6,7 @@ use Rattle.view.specs.Ends.{closingOf}
 use native.Mathlib.Omega.{arith}
 use lib.ListN.{length}
 use Prim.Native.Nat.{_-_, _+_, _<_, _≤_}
-use mathlib.Core.Path.{_≡_, refl, sym, _∙_}
+use mathlib.Core.Path.{_≡_, refl, _∙_}
 use borrow.Author.Needs.{needs}
 use Rattle.view.proofs.ends.past_bracket.Statement.{statement}
 use Rattle.view.proofs.ends.past_bracket.Tie as tie

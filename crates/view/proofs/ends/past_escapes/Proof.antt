@@ -5,7 +5,7 @@ use Rattle.view.proofs.Closing.{string-quote, string-byte, string-slash
 use Rattle.view.specs.Ends.{closingOf}
 use lib.ListN.{length}
 use Prim.Native.Nat.{_-_}
-use mathlib.Core.Path.{_≡_, refl, sym, _∙_}
+use mathlib.Core.Path.{_≡_, refl, _∙_}
 use borrow.Author.Needs.{needs}
 use Rattle.view.proofs.ends.past_escapes.Statement.{statement}
 use Rattle.view.proofs.ends.past_escapes.Tie as tie

@@ -1,143 +1,81 @@
--- `view::members::key_number` meets its contract: by the first byte.
+-- `view::members::key_number` meets its contract: as it stands in the text, or copied.
 -- Assumes nothing.
-use mathlib.Core.Path.{sym, _∙_}
+use mathlib.Core.Path.{ap, _∙_}
+use mathlib.Core.List.{List}
+use Prim.Native.Nat.{ℕ}
+use native.Mathlib.Omega.{arith}
+use Rattle.view.specs.Members.{keyNumber}
+use Rattle.view.proofs.Known.{literal-lent}
+use Rattle.view.proofs.KeyNumber.{long-none, copied}
 use borrow.Author.Needs.{needs}
-use Rattle.view.proofs.KeyNumber.{starts-t, starts-n, starts-s, starts-a, starts-f, starts-d, starts-i, starts-v, starts-l, starts-p, starts-none}
 use Rattle.view.proofs.members.key_number.Statement.{statement}
 use Rattle.view.proofs.members.key_number.Tie as tie
 
-first-byte-requires : tie.Need-first-byte-requires
-first-byte-requires c κs = search needs
+literal-requires : tie.Need-literal-requires
+literal-requires c κs = search needs
 
-slice-aggregate-number-if : tie.Need-slice-aggregate-number-if
-slice-aggregate-number-if c = search needs
+add-start : tie.Need-add-start
+add-start c = let l = (c .before .literal .ensures (c .if1 .taken)) in let a = l .opens in let b = l .closes in omega arith
 
-number-if-requires : tie.Need-number-if-requires
-number-if-requires c κs = search needs
+sub-stop : tie.Need-sub-stop
+sub-stop c = search needs
+
+sub-number-of : tie.Need-sub-number-of
+sub-number-of c = let l = (c .before .literal .ensures (c .if1 .taken)) in let a = l .opens in let b = l .closes in omega arith
+
+part-number-of-start : tie.Need-part-number-of-start
+part-number-of-start c = let l = (c .before .literal .ensures (c .if1 .taken)) in let a = l .opens in let b = l .closes in omega arith
+
+part-number-of-end : tie.Need-part-number-of-end
+part-number-of-end c = let l = (c .before .literal .ensures (c .if1 .taken)) in let a = l .opens in let b = l .closes in omega arith
+
+number-of-requires : tie.Need-number-of-requires
+number-of-requires c κs = search needs
 
 returns : tie.Need-returns
-returns c =
-    c .number-if .ensures ∙ starts-t _ (sym (c .before .before .before .first-byte .ensures) ∙ c .before .before .if1 .taken)
+returns c = c .number-of .ensures ∙ ap (λ (l : List ℕ). keyNumber l) (literal-lent (c .before .before .before .literal .ensures (c .before .before .if1 .taken)))
 
-number-n-requires : tie.Need-number-n-requires
-number-n-requires c κs = search needs
+slice-aggregate-read-copy : tie.Need-slice-aggregate-read-copy
+slice-aggregate-read-copy c = search needs
+
+read-copy-requires : tie.Need-read-copy-requires
+read-copy-requires c κs = search needs
 
 returns-2 : tie.Need-returns-2
-returns-2 c =
-    c .number-n .ensures ∙ starts-n _ (sym (c .before .before .before .first-byte .ensures) ∙ c .before .if2 .taken)
+returns-2 c = let e = c .before .before .read-copy .ensures .0 in long-none _ (omega arith)
 
-number-s-requires : tie.Need-number-s-requires
-number-s-requires c κs = search needs
+sub-number-of-2 : tie.Need-sub-number-of-2
+sub-number-of-2 c = search needs
+
+part-number-of-start-2 : tie.Need-part-number-of-start-2
+part-number-of-start-2 c = search needs
+
+part-number-of-end-2 : tie.Need-part-number-of-end-2
+part-number-of-end-2 c = search needs
+
+number-of-requires-2 : tie.Need-number-of-requires-2
+number-of-requires-2 c κs = search needs
 
 returns-3 : tie.Need-returns-3
-returns-3 c =
-    c .number-s .ensures ∙ starts-s _ (sym (c .before .before .before .before .first-byte .ensures) ∙ c .before .if3 .taken)
-
-slice-aggregate-number-if-2 : tie.Need-slice-aggregate-number-if-2
-slice-aggregate-number-if-2 c = search needs
-
-number-if-requires-2 : tie.Need-number-if-requires-2
-number-if-requires-2 c κs = search needs
-
-returns-4 : tie.Need-returns-4
-returns-4 c =
-    c .number-if2 .ensures ∙ starts-a _ (sym (c .before .before .before .before .before .before .first-byte .ensures) ∙ c .before .before .if4 .taken)
-
-slice-aggregate-number-if-3 : tie.Need-slice-aggregate-number-if-3
-slice-aggregate-number-if-3 c = search needs
-
-number-if-requires-3 : tie.Need-number-if-requires-3
-number-if-requires-3 c κs = search needs
-
-returns-5 : tie.Need-returns-5
-returns-5 c =
-    c .number-if3 .ensures ∙ starts-f _ (sym (c .before .before .before .before .before .before .before .first-byte .ensures) ∙ c .before .before .if5 .taken)
-
-slice-aggregate-number-if-4 : tie.Need-slice-aggregate-number-if-4
-slice-aggregate-number-if-4 c = search needs
-
-number-if-requires-4 : tie.Need-number-if-requires-4
-number-if-requires-4 c κs = search needs
-
-returns-6 : tie.Need-returns-6
-returns-6 c =
-    c .number-if4 .ensures ∙ starts-d _ (sym (c .before .before .before .before .before .before .before .before .first-byte .ensures) ∙ c .before .before .if6 .taken)
-
-slice-aggregate-number-if-5 : tie.Need-slice-aggregate-number-if-5
-slice-aggregate-number-if-5 c = search needs
-
-number-if-requires-5 : tie.Need-number-if-requires-5
-number-if-requires-5 c κs = search needs
-
-returns-7 : tie.Need-returns-7
-returns-7 c =
-    c .number-if5 .ensures ∙ starts-i _ (sym (c .before .before .before .before .before .before .before .before .before .first-byte .ensures) ∙ c .before .before .if7 .taken)
-
-slice-aggregate-number-if-6 : tie.Need-slice-aggregate-number-if-6
-slice-aggregate-number-if-6 c = search needs
-
-number-if-requires-6 : tie.Need-number-if-requires-6
-number-if-requires-6 c κs = search needs
-
-returns-8 : tie.Need-returns-8
-returns-8 c =
-    c .number-if6 .ensures ∙ starts-v _ (sym (c .before .before .before .before .before .before .before .before .before .before .first-byte .ensures) ∙ c .before .before .if8 .taken)
-
-slice-aggregate-number-if-7 : tie.Need-slice-aggregate-number-if-7
-slice-aggregate-number-if-7 c = search needs
-
-number-if-requires-7 : tie.Need-number-if-requires-7
-number-if-requires-7 c κs = search needs
-
-returns-9 : tie.Need-returns-9
-returns-9 c =
-    c .number-if7 .ensures ∙ starts-l _ (sym (c .before .before .before .before .before .before .before .before .before .before .before .first-byte .ensures) ∙ c .before .before .if9 .taken)
-
-slice-aggregate-number-if-8 : tie.Need-slice-aggregate-number-if-8
-slice-aggregate-number-if-8 c = search needs
-
-number-if-requires-8 : tie.Need-number-if-requires-8
-number-if-requires-8 c κs = search needs
-
-returns-10 : tie.Need-returns-10
-returns-10 c =
-    c .number-if8 .ensures ∙ starts-p _ (sym (c .before .before .before .before .before .before .before .before .before .before .before .before .first-byte .ensures) ∙ c .before .before .if10 .taken)
-
-returns-11 : tie.Need-returns-11
-returns-11 c =
-    starts-none _ (λ e. c .before .before .before .before .before .before .before .before .before .if1 .left (c .before .before .before .before .before .before .before .before .before .before .first-byte .ensures ∙ e)) (λ e. c .before .before .before .before .before .before .before .before .if2 .left (c .before .before .before .before .before .before .before .before .before .before .first-byte .ensures ∙ e)) (λ e. c .before .before .before .before .before .before .before .if3 .left (c .before .before .before .before .before .before .before .before .before .before .first-byte .ensures ∙ e)) (λ e. c .before .before .before .before .before .before .if4 .left (c .before .before .before .before .before .before .before .before .before .before .first-byte .ensures ∙ e)) (λ e. c .before .before .before .before .before .if5 .left (c .before .before .before .before .before .before .before .before .before .before .first-byte .ensures ∙ e)) (λ e. c .before .before .before .before .if6 .left (c .before .before .before .before .before .before .before .before .before .before .first-byte .ensures ∙ e)) (λ e. c .before .before .before .if7 .left (c .before .before .before .before .before .before .before .before .before .before .first-byte .ensures ∙ e)) (λ e. c .before .before .if8 .left (c .before .before .before .before .before .before .before .before .before .before .first-byte .ensures ∙ e)) (λ e. c .before .if9 .left (c .before .before .before .before .before .before .before .before .before .before .first-byte .ensures ∙ e)) (λ e. c .if10 .left (c .before .before .before .before .before .before .before .before .before .before .first-byte .ensures ∙ e))
+returns-3 c = c .number-of2 .ensures ∙ ap (λ (l : List ℕ). keyNumber l) (copied _ _ (c .before .before .before .before .before .read-copy .ensures .0) (c .before .before .before .before .before .read-copy .ensures .1) (c .before .before .before .if2 .left))
 
 pub key-number-spec : {M : Type 1} → statement M
 key-number-spec =
     tie.close
     (tie.spec
-    first-byte-requires
-    slice-aggregate-number-if
-    number-if-requires
+    literal-requires
+    add-start
+    sub-stop
+    sub-number-of
+    part-number-of-start
+    part-number-of-end
+    number-of-requires
     returns
-    number-n-requires
+    slice-aggregate-read-copy
+    read-copy-requires
     returns-2
-    number-s-requires
-    returns-3
-    slice-aggregate-number-if-2
-    number-if-requires-2
-    returns-4
-    slice-aggregate-number-if-3
-    number-if-requires-3
-    returns-5
-    slice-aggregate-number-if-4
-    number-if-requires-4
-    returns-6
-    slice-aggregate-number-if-5
-    number-if-requires-5
-    returns-7
-    slice-aggregate-number-if-6
-    number-if-requires-6
-    returns-8
-    slice-aggregate-number-if-7
-    number-if-requires-7
-    returns-9
-    slice-aggregate-number-if-8
-    number-if-requires-8
-    returns-10
-    returns-11)
+    sub-number-of-2
+    part-number-of-start-2
+    part-number-of-end-2
+    number-of-requires-2
+    returns-3)

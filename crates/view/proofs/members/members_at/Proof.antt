@@ -11,10 +11,10 @@ use Rattle.view.proofs.members.members_at.Statement.{statement}
 use Rattle.view.proofs.members.members_at.Tie as tie
 
 abbrev Inv-loop : tie.InvT-loop
-Inv-loop text at found₀ entry₀ found entry = Passing text at found entry
+Inv-loop text ends at found₀ entry₀ found entry = Passing text at found entry
 
 abbrev μ-loop : tie.MeasureT-loop
-μ-loop text at found₀ entry₀ found entry = length (keysAt text (keyOf entry))
+μ-loop text ends at found₀ entry₀ found entry = length (keysAt text (keyOf entry))
 
 first-member-requires : tie.Need-first-member-requires Inv-loop μ-loop
 first-member-requires c κs = search needs
@@ -25,52 +25,52 @@ loop-holds c = pass-start _ _ refl (c .first-member .ensures)
 enum-told : tie.Need-enum-told Inv-loop μ-loop
 enum-told c = search needs
 
-array-copy-out-t11 : tie.Need-array-copy-out-t11 Inv-loop μ-loop
-array-copy-out-t11 c = let h = c .before .before .loop .inv .fourteen in omega arith
+array-copy-out-t12 : tie.Need-array-copy-out-t12 Inv-loop μ-loop
+array-copy-out-t12 c = let h = c .before .before .loop .inv .fourteen in omega arith
 
-array-copy-out-t14 : tie.Need-array-copy-out-t14 Inv-loop μ-loop
-array-copy-out-t14 c = let h = c .before .before .before .loop .inv .fourteen in omega arith
+array-copy-out-t15 : tie.Need-array-copy-out-t15 Inv-loop μ-loop
+array-copy-out-t15 c = let h = c .before .before .before .loop .inv .fourteen in omega arith
 
-array-copy-out-t17 : tie.Need-array-copy-out-t17 Inv-loop μ-loop
-array-copy-out-t17 c = let h = c .before .before .before .before .loop .inv .fourteen in omega arith
+array-copy-out-t18 : tie.Need-array-copy-out-t18 Inv-loop μ-loop
+array-copy-out-t18 c = let h = c .before .before .before .before .loop .inv .fourteen in omega arith
 
-array-copy-out-t20 : tie.Need-array-copy-out-t20 Inv-loop μ-loop
-array-copy-out-t20 c = let h = c .before .before .before .before .before .loop .inv .fourteen in omega arith
+array-copy-out-t21 : tie.Need-array-copy-out-t21 Inv-loop μ-loop
+array-copy-out-t21 c = let h = c .before .before .before .before .before .loop .inv .fourteen in omega arith
 
-array-copy-out-t23 : tie.Need-array-copy-out-t23 Inv-loop μ-loop
-array-copy-out-t23 c =
+array-copy-out-t24 : tie.Need-array-copy-out-t24 Inv-loop μ-loop
+array-copy-out-t24 c =
     let h = c .before .before .before .before .before .before .loop .inv .fourteen in omega arith
 
-array-copy-out-t26 : tie.Need-array-copy-out-t26 Inv-loop μ-loop
-array-copy-out-t26 c =
+array-copy-out-t27 : tie.Need-array-copy-out-t27 Inv-loop μ-loop
+array-copy-out-t27 c =
     let h = c .before .before .before .before .before .before .before .loop .inv .fourteen in omega arith
 
-array-copy-out-t29 : tie.Need-array-copy-out-t29 Inv-loop μ-loop
-array-copy-out-t29 c =
+array-copy-out-t30 : tie.Need-array-copy-out-t30 Inv-loop μ-loop
+array-copy-out-t30 c =
     let h = c .before .before .before .before .before .before .before .before .loop .inv .fourteen in omega arith
 
-array-copy-out-t32 : tie.Need-array-copy-out-t32 Inv-loop μ-loop
-array-copy-out-t32 c =
+array-copy-out-t33 : tie.Need-array-copy-out-t33 Inv-loop μ-loop
+array-copy-out-t33 c =
     let h = c .before .before .before .before .before .before .before .before .before .loop .inv .fourteen in omega arith
 
-array-copy-out-t35 : tie.Need-array-copy-out-t35 Inv-loop μ-loop
-array-copy-out-t35 c =
+array-copy-out-t36 : tie.Need-array-copy-out-t36 Inv-loop μ-loop
+array-copy-out-t36 c =
     let h = c .before .before .before .before .before .before .before .before .before .before .loop .inv .fourteen in omega arith
 
-array-copy-out-t38 : tie.Need-array-copy-out-t38 Inv-loop μ-loop
-array-copy-out-t38 c =
+array-copy-out-t39 : tie.Need-array-copy-out-t39 Inv-loop μ-loop
+array-copy-out-t39 c =
     let h = c .before .before .before .before .before .before .before .before .before .before .before .loop .inv .fourteen in omega arith
 
-array-copy-out-t41 : tie.Need-array-copy-out-t41 Inv-loop μ-loop
-array-copy-out-t41 c =
+array-copy-out-t42 : tie.Need-array-copy-out-t42 Inv-loop μ-loop
+array-copy-out-t42 c =
     let h = c .before .before .before .before .before .before .before .before .before .before .before .before .loop .inv .fourteen in omega arith
 
-array-copy-out-t44 : tie.Need-array-copy-out-t44 Inv-loop μ-loop
-array-copy-out-t44 c =
+array-copy-out-t45 : tie.Need-array-copy-out-t45 Inv-loop μ-loop
+array-copy-out-t45 c =
     let h = c .before .before .before .before .before .before .before .before .before .before .before .before .before .loop .inv .fourteen in omega arith
 
-array-copy-out-t47 : tie.Need-array-copy-out-t47 Inv-loop μ-loop
-array-copy-out-t47 c =
+array-copy-out-t48 : tie.Need-array-copy-out-t48 Inv-loop μ-loop
+array-copy-out-t48 c =
     let h = c .before .before .before .before .before .before .before .before .before .before .before .before .before .before .loop .inv .fourteen in omega arith
 
 returns : tie.Need-returns Inv-loop μ-loop
@@ -110,19 +110,19 @@ members-at-spec =
     first-member-requires
     loop-holds
     enum-told
-    array-copy-out-t11
-    array-copy-out-t14
-    array-copy-out-t17
-    array-copy-out-t20
-    array-copy-out-t23
-    array-copy-out-t26
-    array-copy-out-t29
-    array-copy-out-t32
-    array-copy-out-t35
-    array-copy-out-t38
-    array-copy-out-t41
-    array-copy-out-t44
-    array-copy-out-t47
+    array-copy-out-t12
+    array-copy-out-t15
+    array-copy-out-t18
+    array-copy-out-t21
+    array-copy-out-t24
+    array-copy-out-t27
+    array-copy-out-t30
+    array-copy-out-t33
+    array-copy-out-t36
+    array-copy-out-t39
+    array-copy-out-t42
+    array-copy-out-t45
+    array-copy-out-t48
     returns
     enum-known-entry
     key-number-requires

@@ -5,14 +5,14 @@ use borrow.Author.Needs.{needs}
 use Rattle.view.proofs.members.number_if.Statement.{statement}
 use Rattle.view.proofs.members.number_if.Tie as tie
 
-string-is-requires : tie.Need-string-is-requires
-string-is-requires c κs = search needs
+same-requires : tie.Need-same-requires
+same-requires c κs = search needs
 
 returns : tie.Need-returns
-returns c = rw (sym (c .before .string-is .ensures) ∙ c .if1 .taken)
+returns c = rw (sym (c .before .same .ensures) ∙ c .if1 .taken)
 
 returns-2 : tie.Need-returns-2
-returns-2 c = rw (sym (c .before .string-is .ensures) ∙ c .if1 .left)
+returns-2 c = rw (sym (c .before .same .ensures) ∙ c .if1 .left)
 
 pub number-if-spec : {M : Type 1} → statement M
-number-if-spec = tie.close (tie.spec string-is-requires returns returns-2)
+number-if-spec = tie.close (tie.spec same-requires returns returns-2)

@@ -24,10 +24,10 @@ is-stop-requires : tie.Need-is-stop-requires
 is-stop-requires c κs = search needs
 
 sub-result : tie.Need-sub-result
-sub-result c = c .before .before .before .plain-end .ensures .1
+sub-result c = c .before .before .before .plain-end .ensures .ahead
 
 returns : tie.Need-returns
-returns c = run-length _ _ _ (c .before .before .before .before .before .byte-at .ensures) (c .before .before .before .before .if1 .taken) (c .before .before .before .plain-end .ensures .0) (c .before .before .byte-at2 .ensures) (sym (c .before .is-stop .ensures) ∙ c .if2 .taken) (c .before .before .before .plain-end .ensures .1) (c .before .before .before .plain-end .ensures .2)
+returns c = run-length _ _ _ (c .before .before .before .before .before .byte-at .ensures) (c .before .before .before .before .if1 .taken) (c .before .before .before .plain-end .ensures) (c .before .before .byte-at2 .ensures) (sym (c .before .is-stop .ensures) ∙ c .if2 .taken)
 
 spelled-length-requires : tie.Need-spelled-length-requires
 spelled-length-requires c κs = search needs

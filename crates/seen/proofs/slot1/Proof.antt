@@ -1,0 +1,15 @@
+-- `seen::slot1` meets its contract.
+-- Assumes nothing.
+use native.Mathlib.Omega.{arith}
+use borrow.Author.Needs.{needs}
+use Rattle.seen.proofs.slot1.Statement.{statement}
+use Rattle.seen.proofs.slot1.Tie as tie
+
+spread-requires : tie.Need-spread-requires
+spread-requires c κs = search needs
+
+returns : tie.Need-returns
+returns c = (cc, omega arith)
+
+pub slot1-spec : {M : Type 1} → statement M
+slot1-spec = tie.close (tie.spec spread-requires returns)

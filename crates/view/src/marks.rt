@@ -1,0 +1,58 @@
+// The marks of strings: numbers by which most strings that differ are told apart.
+use super::literals::literal;
+use super::strings::Step;
+use super::strings::next_byte;
+use super::strings::opening;
+ghost use mathlib.Core.Path.{_≡_};
+ghost use Prim.Native.Nat.{_<_};
+ghost use Rattle.view.specs.Known.{Known};
+ghost use Rattle.view.specs.Marks.{markOf};
+ghost use Rattle.view.specs.Strings.{stringAt};
+
+fn wide(b: u8) -> u64
+    ensures { λ r. ⌜ (r ≡ b) × (r < 256) ⌝ }
+{
+    b as u64
+}
+
+fn mark_of(s: &[u8]) -> u64
+    ensures { λ r. ⌜ r ≡ markOf (now (s .entry)) ⌝ }
+{
+    let mut h: u64 = 0;
+    let mut i: usize = 0;
+    while i < s.len() {
+        h = (h * 31 + wide(s[i])) % 4294967296;
+        i += 1;
+    }
+    h
+}
+
+fn spelled_mark(text: &[u8], at: usize) -> u64
+    ensures { λ r. ⌜ r ≡ markOf (stringAt (now (text .entry)) at) ⌝ }
+{
+    let mut c = opening(text, at);
+    let mut h: u64 = 0;
+    loop {
+        match next_byte(text, c) {
+            Step::End => return h,
+            Step::Byte(b, next) => {
+                h = (h * 31 + wide(b)) % 4294967296;
+                c = next;
+            }
+        }
+    }
+}
+
+// The mark of the string at `at`.
+pub fn mark(text: &[u8], ends: &[u16], at: usize) -> u64
+    requires { ⌜ Known (now text) (now ends) ⌝ }
+    ensures { λ r. ⌜ r ≡ markOf (stringAt (now (text .entry)) at) ⌝ }
+{
+    let e = literal(text, ends, at);
+    if 0 < e {
+        let start = at + 1;
+        let stop = e - 1;
+        return mark_of(&text[start..stop]);
+    }
+    spelled_mark(text, at)
+}
