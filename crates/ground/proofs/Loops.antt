@@ -1,31 +1,51 @@
 -- Turns of the loops: each invariant says that the answer is that for what is left.
 -- Assumes nothing.
 use mathlib.Core.Path.{_≡_, sym, ap, _∙_}
-use mathlib.Core.Bool.{Bool, true, false, _&&_, and-true, and-assoc}
-use mathlib.Core.List.{List}
+use mathlib.Core.Bool.{Bool, true, false, _&&_, and-true, and-false, and-assoc}
+use mathlib.Core.List.{List, [], _∷_, _++_}
 use Prim.Native.Nat.{ℕ, suc, _+_, _-_, _<_, _≤_, max, min}
 use native.Mathlib.Numerals.{add-one}
 use native.Mathlib.Decide.{decLe}
 use native.Mathlib.Omega.{arith}
-use lib.ListN.{length, drop, getD, set, drop-of-length-le}
-use lib.Seq.{drop-cons}
+use lib.ListN.{length, take, drop, getD, set, length-take, drop-of-length-le}
+use lib.Seq.{take-all, take-suc, drop-cons}
 use lib.Dec.{eqb}
 use borrow.Author.Tests.{eq-eqb, ne-eqb}
 use Rattle.ground.specs.Bytes.{same, allZero, store}
 use Rattle.ground.proofs.Laws.{store-cons, store-none, store-past}
 
-module _ (a b : List ℕ) (i : ℕ) (t : Bool) (inv : t ≡ same (drop i a) (drop i b)) where
-  pub same-differ : i < length a → i < length b → (getD a i 0 ≡ getD b i 0 → ⊥) → false ≡ t
-  unfolding same
-  same-differ l k n = sym (inv ∙ rw (drop-cons a i 0 l, drop-cons b i 0 k, ne-eqb (getD a i 0) (getD b i 0) n))
+-- two strings of one byte more
+same-more : (a b : List ℕ) (x y : ℕ) → length a ≡ length b → same (a ++ (x ∷ [])) (b ++ (y ∷ [])) ≡ (same a b && eqb x y)
+unfolding same
+same-more [] [] x y e = and-true (eqb x y)
+same-more [] (v ∷ b) x y e = absurd (omega arith)
+same-more (u ∷ a) [] x y e = absurd (omega arith)
+same-more (u ∷ a) (v ∷ b) x y e = ap (λ (z : Bool). eqb u v && z) (same-more a b x y (omega arith)) ∙ sym (and-assoc (eqb u v) (same a b) (eqb x y))
 
-  pub same-turn : i < length a → i < length b → getD a i 0 ≡ getD b i 0 → t ≡ same (drop (i + 1) a) (drop (i + 1) b)
-  unfolding same
-  same-turn l k e = inv ∙ rw (drop-cons a i 0 l, drop-cons b i 0 k, eq-eqb (getD a i 0) (getD b i 0) e, add-one)
+-- from the last byte on: those before the one that stands `back` bytes from the end, and it, are left to be compared
+module _ (a b : List ℕ) (e : length a ≡ length b) where
+  pub same-whole : same a b ≡ same (take (length a + 1 - 1) a) (take (length a + 1 - 1) b)
+  same-whole = sym (rw (take-all (length a + 1 - 1) a (omega arith), take-all (length a + 1 - 1) b (omega arith)))
 
-  pub same-end : length a ≤ i → length b ≤ i → true ≡ t
-  unfolding same
-  same-end l k = sym (inv ∙ rw (drop-of-length-le a l, drop-of-length-le b k))
+  module _ (back : ℕ) (t : Bool) (inv : t ≡ same (take (length a + 1 - back) a) (take (length a + 1 - back) b)) where
+    pub same-end : length a < back → true ≡ t
+    unfolding same
+    same-end h = let z : length a + 1 - back ≡ 0 = omega arith in sym (inv ∙ rw z)
+
+    module _ (h : 1 ≤ back) (l : back ≤ length a) (i : ℕ) (f : i ≡ length a - back) where
+      last : t ≡ (same (take i a) (take i b) && eqb (getD a i 0) (getD b i 0))
+      last =
+          let k : length (take i a) ≡ length (take i b) = simp length-take (omega arith) in
+          let z : length a + 1 - back ≡ suc i = omega arith in
+          inv ∙ rw (z, take-suc a i 0 (omega arith), take-suc b i 0 (omega arith)) (same-more (take i a) (take i b) (getD a i 0) (getD b i 0) k)
+
+      pub same-differ : (getD a i 0 ≡ getD b i 0 → ⊥) → false ≡ t
+      same-differ d = sym (last ∙ rw (ne-eqb (getD a i 0) (getD b i 0) d) (and-false (same (take i a) (take i b))))
+
+      pub same-turn : getD a i 0 ≡ getD b i 0 → t ≡ same (take (length a + 1 - (back + 1)) a) (take (length a + 1 - (back + 1)) b)
+      same-turn d =
+          let z : length a + 1 - (back + 1) ≡ i = omega arith in
+          last ∙ rw (eq-eqb (getD a i 0) (getD b i 0) d, z) (and-true (same (take i a) (take i b)))
 
 -- the larger of two is 0 where both are
 both-zero : (a b : ℕ) → eqb (max a b) 0 ≡ (eqb a 0 && eqb b 0)

@@ -11,19 +11,21 @@ pub fn byte_at(s: &[u8], at: usize) -> u8
     if at < s.len() { s[at] } else { 0 }
 }
 
-// Are the two the same bytes?
+// Are the two the same bytes? Lengths first, then bytes from the last: most strings that are compared differ, and most that differ
+// share their beginning.
 pub fn same(a: &[u8], b: &[u8]) -> bool
     ensures { λ r. ⌜ r ≡ same (now (a .entry)) (now (b .entry)) ⌝ }
 {
     if a.len() != b.len() {
         return false;
     }
-    let mut i = 0;
-    while i < a.len() {
+    let mut back = 1;
+    while back <= a.len() {
+        let i = a.len() - back;
         if a[i] != b[i] {
             return false;
         }
-        i += 1;
+        back += 1;
     }
     true
 }
