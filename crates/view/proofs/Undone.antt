@@ -1,18 +1,18 @@
 -- Laws of the bytes of a string, and turns of the loops over them.
 -- Assumes nothing.
 use mathlib.Core.Path.{_≡_, refl, sym, ap, _∙_, subst}
-use mathlib.Core.Bool.{Bool, true, false, cond}
+use mathlib.Core.Bool.{Bool, true, false, cond, not}
 use mathlib.Core.List.{List, [], _∷_, _++_}
 use Prim.Native.Nat.{ℕ, zero, suc, _+_, _-_, _*_, _/_, _%_, _<_, _≤_}
 use native.Mathlib.Numerals.{add-one}
 use native.Mathlib.Omega.{arith}
-use native.Mathlib.Decide.{decLt}
+use native.Mathlib.Decide.{decLt, decLe}
 use lib.Dec.{eqb, ltb, leb}
-use lib.ListN.{length, getD, take, drop, set, drop-of-length-le, length-drop, length-take, length-append}
+use lib.ListN.{length, getD, take, drop, set, drop-of-length-le, length-take, length-append}
 use lib.Seq.{drop-cons, drop-nil, getD-take, drop-append-le, drop-append-seam}
-use borrow.Author.Tests.{eq-eqb, ne-eqb, ltb-false, leb-true, eqb-true}
+use borrow.Author.Tests.{eq-eqb, ne-eqb, ltb-false, leb-true, eqb-true, eqb-false, not-true, not-false}
 use Rattle.ground.specs.Bytes.{byteAt, same, store}
-use Rattle.ground.proofs.Laws.{byte-past, store-cons}
+use Rattle.ground.proofs.Laws.{byte-past, store-cons, same-unlike}
 use Rattle.view.specs.declared.strings.Piece.{Piece}
 use Rattle.view.specs.declared.strings.Cursor.{Cursor}
 use Rattle.view.specs.declared.strings.Step.{Step}
@@ -317,42 +317,50 @@ module _ {t l : List ℕ} {s : Step} (r : Reads t l s) where
   pub read-within : {b : ℕ} {d : Cursor} → s ≡ Byte b d → Within t d
   read-within e = subst (λ (x : Step). Reads t l x) e r .reads .1
 
+-- ---- a length against a number: so many bytes may still come as are left
+module _ (s n more left : ℕ) (inv : n + left ≡ s + more) where
+  pub count-end : left ≡ 0 → eqb more 0 ≡ eqb s n
+  count-end e = go (decLe more 0)
+    where
+      go : Dec (more ≤ 0) → eqb more 0 ≡ eqb s n
+      go (yes l) = rw (eq-eqb more 0 (omega arith), eq-eqb s n (omega arith))
+      go (no l) = rw (ne-eqb more 0 (λ (f : more ≡ 0). l (omega arith)), ne-eqb s n (λ (f : s ≡ n). l (omega arith)))
+
+  pub count-past : 0 < left → more ≡ 0 → false ≡ eqb s n
+  count-past l e = sym (ne-eqb s n (λ (f : s ≡ n). omega arith))
+
+-- ---- lengths first
+module _ (a b : List ℕ) {r : Bool} (e : r ≡ eqb (length a) (length b)) where
+  pub unlike : not r ≡ true → false ≡ same a b
+  unlike h = sym (same-unlike a b (eqb-false (length a) (length b) (sym e ∙ not-true r h)))
+
+  pub alike : not r ≡ false → length a ≡ length b
+  alike h = eqb-true (length a) (length b) (sym e ∙ not-false r h)
+
 -- ---- a string against a word
-same-none : (w : List ℕ) (i : ℕ) → i ≤ length w → eqb i (length w) ≡ same [] (drop i w)
-unfolding same
-same-none w i h = go (drop i w) (length-drop i w)
-  where
-    go : (s : List ℕ) → length s ≡ length w - i → eqb i (length w) ≡ same [] s
-    go [] e = eq-eqb i (length w) (omega arith)
-    go (x ∷ s) e = ne-eqb i (length w) (λ f. omega arith)
-
 module _ (w l : List ℕ) (i : ℕ) {x : Bool} (inv : same l (drop i w) ≡ x) where
-  pub word-end : i ≤ length w → l ≡ [] → eqb i (length w) ≡ x
-  word-end h e = same-none w i h ∙ ap (λ (y : List ℕ). same y (drop i w)) (sym e) ∙ inv
+  pub word-end : length w ≤ i → l ≡ [] → true ≡ x
+  unfolding same
+  word-end h e = rw (drop-of-length-le w h, e) at inv
 
-  module _ {b : ℕ} {k : List ℕ} (e : l ≡ b ∷ k) where
-    pub word-short : length w ≤ i → false ≡ x
+  module _ {b : ℕ} {k : List ℕ} (e : l ≡ b ∷ k) (h : i < length w) where
+    pub word-differ : (getD w i 0 ≡ b → ⊥) → false ≡ x
     unfolding same
-    word-short h = rw (drop-of-length-le w h, e) at inv
+    word-differ n = rw (drop-cons w i 0 h, e, ne-eqb b (getD w i 0) (λ f. n (sym f))) at inv
 
-    module _ (h : i < length w) where
-      pub word-differ : (getD w i 0 ≡ b → ⊥) → false ≡ x
-      unfolding same
-      word-differ n = rw (drop-cons w i 0 h, e, ne-eqb b (getD w i 0) (λ f. n (sym f))) at inv
-
-      pub word-turn : getD w i 0 ≡ b → same k (drop (i + 1) w) ≡ x
-      unfolding same
-      word-turn f = rw (drop-cons w i 0 h, e, eq-eqb b (getD w i 0) (sym f), ← add-one) at inv
+    pub word-turn : getD w i 0 ≡ b → same k (drop (i + 1) w) ≡ x
+    unfolding same
+    word-turn f = rw (drop-cons w i 0 h, e, eq-eqb b (getD w i 0) (sym f), ← add-one) at inv
 
 -- ---- two strings
-module _ (l m : List ℕ) {x : Bool} (inv : same l m ≡ x) where
-  pub both-end : l ≡ [] → m ≡ [] → true ≡ x
-  unfolding same
-  both-end e f = rw (e, f) at inv
+no-bytes : (l : List ℕ) → 0 ≡ length l → l ≡ []
+no-bytes [] e = refl
+no-bytes (b ∷ l) e = absurd (omega arith)
 
-  pub one-ends : l ≡ [] → {b : ℕ} {k : List ℕ} → m ≡ b ∷ k → false ≡ x
+module _ (l m : List ℕ) {x : Bool} (inv : same l m ≡ x) where
+  pub both-end : length l ≡ length m → l ≡ [] → true ≡ x
   unfolding same
-  one-ends e f = rw (e, f) at inv
+  both-end h e = rw (e, no-bytes m (sym (ap length e) ∙ h)) at inv
 
   module _ {b : ℕ} {k : List ℕ} (e : l ≡ b ∷ k) where
     pub other-ends : m ≡ [] → false ≡ x

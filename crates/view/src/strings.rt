@@ -1,6 +1,7 @@
 // Strings with escapes undone.
 use ground::byte_at;
 ghost use mathlib.Core.Path.{_≡_};
+ghost use lib.Dec.{eqb};
 ghost use Prim.Native.Nat.{_<_, _≤_};
 ghost use lib.ListN.{length, set};
 ghost use Rattle.ground.specs.Bytes.{byteAt, same, store};
@@ -259,26 +260,42 @@ pub fn string_length(text: &[u8], at: usize) -> usize
     spelled_length(text, at)
 }
 
-// Is the string at `at` the word?
+// Has the string at `at` n bytes? No more of it is read than tells.
+fn has_length(text: &[u8], at: usize, n: usize) -> bool
+    ensures { λ r. ⌜ r ≡ eqb (length (stringAt (now (text .entry)) at)) n ⌝ }
+{
+    let mut c = opening(text, at);
+    let mut more = n;
+    loop {
+        let Step::Byte(_, next) = next_byte(text, c) else {
+            return more == 0;
+        };
+        if more == 0 {
+            return false;
+        }
+        more -= 1;
+        c = next;
+    }
+}
+
+// Is the string at `at` the word? What an escape is can be told from its front alone, so bytes are compared from the first.
 pub(crate) fn read_is(text: &[u8], at: usize, word: &[u8]) -> bool
     ensures { λ r. ⌜ r ≡ same (stringAt (now (text .entry)) at) (now (word .entry)) ⌝ }
 {
+    if !has_length(text, at, word.len()) {
+        return false;
+    }
     let mut c = opening(text, at);
     let mut i: usize = 0;
     loop {
-        match next_byte(text, c) {
-            Step::End => return i == word.len(),
-            Step::Byte(b, next) => {
-                if word.len() <= i {
-                    return false;
-                }
-                if word[i] != b {
-                    return false;
-                }
-                i += 1;
-                c = next;
-            }
+        let Step::Byte(b, next) = next_byte(text, c) else {
+            return true;
+        };
+        if word[i] != b {
+            return false;
         }
+        i += 1;
+        c = next;
     }
 }
 
@@ -313,24 +330,22 @@ pub(crate) fn read_copy(text: &[u8], at: usize, out: &mut [u8]) -> usize
 pub(crate) fn read_same(text: &[u8], one: usize, other: usize) -> bool
     ensures { λ r. ⌜ r ≡ same (stringAt (now (text .entry)) one) (stringAt (now (text .entry)) other) ⌝ }
 {
+    if !has_length(text, one, string_length(text, other)) {
+        return false;
+    }
     let mut c = opening(text, one);
     let mut d = opening(text, other);
     loop {
-        match next_byte(text, c) {
-            Step::End => match next_byte(text, d) {
-                Step::End => return true,
-                Step::Byte(_, _) => return false,
-            },
-            Step::Byte(a, after) => match next_byte(text, d) {
-                Step::End => return false,
-                Step::Byte(b, behind) => {
-                    if a != b {
-                        return false;
-                    }
-                    c = after;
-                    d = behind;
-                }
-            },
+        let Step::Byte(a, after) = next_byte(text, c) else {
+            return true;
+        };
+        let Step::Byte(b, behind) = next_byte(text, d) else {
+            return false;
+        };
+        if a != b {
+            return false;
         }
+        c = after;
+        d = behind;
     }
 }
