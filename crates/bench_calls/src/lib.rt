@@ -7,6 +7,7 @@ ghost use mathlib.Core.Path.{_≡_};
 ghost use lib.ListN.{length};
 ghost use Rattle.bench_calls.specs.Places.{placeOf, rowsRead, rowsIn, lengthIn};
 ghost use Rattle.canonical.specs.Calls.{writtenAt, lengthOf, bufferAfter};
+ghost use Rattle.ground.specs.Bytes.{same};
 ghost use Rattle.json.specs.Json.{scanned};
 ghost use Rattle.rabin.specs.Rabin.{rabinOf};
 ghost use Rattle.resolve.specs.WellFormed.{wellFormed};
@@ -18,6 +19,13 @@ pub extern "C" fn bench_fingerprint(bytes: &[u8]) -> i64
     ensures { λ r. ⌜ r ≡ rabinOf (now (bytes .entry)) ⌝ }
 {
     rabin::fingerprint(bytes)
+}
+
+#[no_mangle]
+pub extern "C" fn bench_same(a: &[u8], b: &[u8]) -> bool
+    ensures { λ r. ⌜ r ≡ same (now (a .entry)) (now (b .entry)) ⌝ }
+{
+    ground::same(a, b)
 }
 
 // The text's length where it is whole, else the place of its fault.
