@@ -6,6 +6,7 @@ the positions of all rows. ~40~ stands for the letter n forty times. Rows are wr
 `#NOTE` or `#1,PRECISION,SCALE` where these are not 0, separated by `; `; or `ROWS/BYTES` where only the counts are given.
 """
 import collections
+import json
 import random
 import re
 
@@ -1232,6 +1233,205 @@ def generated():
 
 generated()
 
+# ---- names that nearly agree
+#
+# For 11, 14, 16 and 19: names that are equal, or differ in one byte or in their length alone. Whether two are equal is asked of
+# Python's strings, once Python's json has undone the escapes. In the texts of this section ^ marks the rows' positions and @ the
+# one of the refusal, if it is refused. They stand in a list of their own: sequences.py picks texts of CASES by their number there.
+
+NEAR = []
+
+
+def undone(spelling):
+    return json.loads('"%s"' % spelling)
+
+
+def near(number, label, refused, rows, text):
+    if refused:
+        no(number, "near: " + label, text.replace("^", "").replace("@", "^"))
+    else:
+        yes("%d near: %s" % (number, label), rows, text.replace("@", ""))
+    NEAR.append(CASES.pop())
+
+
+def parts(texts, fault):
+    """The texts between commas, @ before the one at fault."""
+    return ",".join(("@" if i == fault else "") + t for i, t in enumerate(texts))
+
+
+def again(names):
+    """The number of the first name that an earlier one is equal to."""
+    return next((i for i, n in enumerate(names) if n in names[:i]), None)
+
+
+def near_11(label, *fields):
+    """A field is its name, or its name and its aliases."""
+    fields = [[f] if isinstance(f, str) else f for f in fields]
+    taken, fault, rows, texts = [], None, "0 record R", []
+    for i, (name, *others) in enumerate(fields):
+        if undone(name) in taken and fault is None:
+            fault = i
+        taken += [undone(n) for n in [name] + others]
+        rows += "; 1 field %s; %s2 union" % (undone(name), "".join("2 field-alias %s; " % undone(a) for a in others))
+        texts.append('{"name":%s^"%s"%s,"type":^[]}' % ("@" if i == fault else "", name, ',"aliases":[%s]' % ",".join('^"%s"' % a for a in others) if others else ""))
+    near(11, label, fault is not None, rows, '{"type":"record","name":^"R","fields":[%s]}' % ",".join(texts))
+
+
+def near_14(label, *symbols):
+    fault = again([undone(s) for s in symbols])
+    near(14, label, fault is not None, "0 enum E" + "".join("; 1 symbol " + undone(s) for s in symbols),
+         '{"type":"enum","name":^"E","symbols":[%s]}' % parts(['^"%s"' % s for s in symbols], fault))
+
+
+def near_16(label, default, *symbols):
+    near(16, label, undone(default) not in [undone(s) for s in symbols], "0 enum E" + "".join("; 1 symbol " + undone(s) for s in symbols),
+         '{"type":"enum","name":^"E","symbols":[%s],"default":@"%s"}' % (",".join('^"%s"' % s for s in symbols), default))
+
+
+def near_19(label, *members, space=""):
+    """A member is its full name, its row and its text. With a space the union stands in a record of that namespace."""
+    fault, depth = again([m[0] for m in members]), 3 if space else 1
+    rows = "".join("; %d %s" % (depth, m[1] % m[0]) for m in members)
+    text = "^[%s]" % parts([m[2] for m in members], fault)
+    if space:
+        near(19, label, fault is not None, "0 record %s.R; 1 field f; 2 union" % space + rows, '{"type":"record","name":^"%s.R","fields":[{"name":^"f","type":%s}]}' % (space, text))
+    else:
+        near(19, label, fault is not None, "0 union" + rows, text)
+
+
+def named(spelling, full=None):
+    """A reference; its full name is the name itself where no other is given."""
+    return full or undone(spelling), "reference %s", '^"%s"' % spelling
+
+
+def defined(spelling, full=None, space=None):
+    """A fixed, with a namespace of its own where one is given."""
+    return full or undone(spelling), "fixed %s =0", '{"type":"fixed","name":^"%s",%s"size":0}' % (spelling, "" if space is None else '"namespace":"%s",' % space)
+
+
+def spelt(name, how, capital):
+    """The name with an escape for its first character, its last, or all; the hexadecimal digits small or capital."""
+    at = {"plain": (), "first": (0,), "last": (len(name) - 1,), "all": range(len(name))}[how]
+    return "".join(("\\u%04X" if capital else "\\u%04x") % ord(c) if i in at else c for i, c in enumerate(name))
+
+
+# J is 4A, o 6F, k 6B, Z 5A, K 4B: the digits of an escape may be small or capital
+BASE = "JokZ"
+PAIRS = [("equal", BASE, BASE), ("a prefix first", "Jok", BASE), ("a prefix behind", BASE, "Jok"), ("a suffix first", "okZ", BASE), ("a suffix behind", BASE, "okZ"),
+         ("the first byte", BASE, "KokZ"), ("the last byte", BASE, "JokJ"), ("the last but one", BASE, "JoKZ"), ("a middle byte", BASE, "JpkZ")]
+SPELLINGS = [(a, b) for how in ("first", "last", "all") for a, b in ((how, "plain"), ("plain", how), (how, how))]
+
+
+def two_references(label, *names):
+    near_19(label, *[named(n) for n in names])
+
+
+def field_and_alias(label, x, y):
+    near_11(label, ("f", x), y)
+
+
+def short_pairs():
+    """Each pair plain, by each of the rules; the equal one in all spellings, by each; every other spelling by one of 14, 16 and 19."""
+    rules = (near_14, near_16, near_11, two_references)
+    for p, (label, x, y) in enumerate(PAIRS):
+        for rule in rules:
+            rule(label, x, y)
+        for s, (a, b) in enumerate(SPELLINGS):
+            for rule in rules if x == y else ((near_14, near_16, two_references, two_references)[(p + s) % 4],):
+                rule("%s, escapes: %s and %s" % (label, a, b), spelt(x, a, False), spelt(y, b, True))
+    for rule in rules:
+        rule("one byte, equal", "J", "J")
+        rule("one byte, another", "J", "K")
+    for rule in (near_14, near_16, two_references):
+        rule("equal, escapes: first and last", spelt(BASE, "first", True), spelt(BASE, "last", False))
+        rule("one byte, equal, escapes in both", r"\u004A", r"\u004a")
+        rule("one byte, another, escapes in both", r"\u004a", r"\u004B")
+        rule("turned round", BASE, BASE[::-1])
+    near_11("the first byte, escapes: first and first", r"\u004aokZ", r"\u004BokZ")
+    near_11("the last byte, escapes: plain and last", "JokZ", r"Jok\u004A")
+    near_11("five, escapes in two", "okZ", "Jok", r"Jok\u005A", "JpkZ", r"\u004aokZK")
+    for p in (0, 1, 4, 5, 6):
+        label, x, y = PAIRS[p]
+        field_and_alias("an alias, " + label, x, y)
+    for a, b in (("first", "plain"), ("all", "all")):
+        field_and_alias("an alias, equal, escapes: %s and %s" % (a, b), spelt(BASE, a, True), spelt(BASE, b, False))
+
+
+short_pairs()
+
+# a default that is no name, beside symbols of its length that have its other bytes, or the letters of its escape
+for spelling, letters in ((r"\"", "x"), (r"\\", "x"), (r"\n", "n"), (r"\u0000", "u0000"), (r"\u00e9", "u00e9"), ("é", "e"), (r"\u014A", "J"), (r"\u20AC", "u20AC"), (r"\uD83D\uDE00", "uD83DuDE00"),
+                          ("😀", "D83D")):
+    width = len(undone(spelling).encode("utf-8"))
+    near_16("no name, in the middle: " + ascii(spelling), "J%sZ" % spelling, "J%sZ" % ("y" * width), "J%sZ" % letters, "JZ")
+for spelling in (r"\"", r"\\", r"\u00E9", r"\ud83d\ude00"):
+    width = len(undone(spelling).encode("utf-8"))
+    near_16("no name, at the end: " + spelling, "ok" + spelling, "ok" + "x" * width, "ok")
+    near_16("no name, at the beginning: " + spelling, spelling + "ok", "x" * width + "ok", "ok")
+near_16("an escape undone once only", r"\\u004A", "J", "u004A")
+near_16("a null character behind", r"J\u0000", "J")
+near_16("257 bytes beside one", "J" * 257, "J")
+near_16("the second of three", "JokZ", "KokZ", r"Jok\u005A", "Jok")
+near_16("none of five", "JokZ", "KokZ", "JokY", "Jok", "okZ", "JokZJ")
+
+# members that are definitions
+for label, x, y in PAIRS:
+    if label in ("equal", "a prefix first", "the first byte", "the last byte"):
+        near_19("two definitions, " + label, defined(x), defined(y))
+    if label in ("equal", "a suffix behind", "the first byte", "the last byte"):
+        near_19("a reference and a definition, " + label, named(x), defined(y))
+        near_19("a definition and a reference, " + label, defined(x), named(y))
+near_19("two definitions, equal, escapes", defined(spelt(BASE, "all", False)), defined(spelt(BASE, "last", True)))
+near_19("a reference and a definition, equal, escapes", named(spelt(BASE, "first", True)), defined(BASE))
+near_19("a definition and a reference, the last byte, escapes", defined(spelt(BASE, "last", True)), named(spelt("JokJ", "last", True)))
+
+# full names; beside a spelling stands what its namespace makes of it
+near_19("a namespace makes them equal", named("JokZ", "n.JokZ"), named("n.JokZ"), space="n")
+near_19("a namespace of another first byte", named("JokZ", "n.JokZ"), named("m.JokZ"), space="n")
+near_19("a namespace and none, a suffix", named("JokZ", "n.JokZ"), named(".JokZ", "JokZ"), space="n")
+near_19("a namespace makes the last of three equal", named("KokZ", "n.KokZ"), named(".JokZ", "JokZ"), defined("JokZ", "n.JokZ"), named(r"n\u002eJokZ"), space="n")
+near_19("the empty namespace and a leading dot", defined("JokZ", "JokZ", ""), named(r"\u002EJokZ", "JokZ"), space="n")
+near_19("a dot in another place", named("a.bc"), named("ab.c"))
+near_19("a dot in another place by a namespace", defined("c", "ab.c", "ab"), named("a.bc"))
+near_19("a dot in another place by two namespaces", defined("c", "ab.c", "ab"), defined("bc", "a.bc", "a"))
+near_19("a dot and an underscore", named("a.bc"), named("a_bc"))
+near_19("a namespace with two parts", defined("c", "a.b.c", "a.b"), named("a.b.c"))
+near_19("a namespace with two parts, an escaped dot", defined("c", "a.b.c", r"a\u002Eb"), named(r"\u0061.b.c"))
+near_19("a namespace with two parts, the last two parts", defined("c", "a.b.c", "a.b"), named("b.c"))
+near_19("one last part in namespaces that differ in the last byte", defined("JokZ", "n.m.JokZ", "n.m"), defined("JokZ", "n.n.JokZ", "n.n"))
+
+
+def long_name(length):
+    return ("abcdefghijklmnopqrstuvwxyz_ABCDEFGHIJKLMNOPQRSTUVWXYZ0123456789" * 5)[:length]
+
+
+def long_pairs():
+    """A long name, one that shares its beginning or its end, and the first again."""
+    for length in (200, 255):
+        name, how = long_name(length), "plain" if length == 200 else "first"
+        beginning, end = name[:-1] + "Q", "Q" + name[1:]
+        near_11("%d bytes" % length, name, end if length == 200 else beginning, spelt(name, how, True))
+        near_14("%d bytes" % length, name, beginning if length == 200 else end, spelt(name, how, False))
+        two_references("%d bytes" % length, name, end if length == 200 else beginning, name)
+        near_16("%d bytes" % length, name, beginning, spelt(name, how, True) if length == 200 else end)
+    deep = long_name(30) + "." + long_name(30)
+    near_19("long namespaces", named(deep + ".Jok"), defined("Jok", "Q" + deep[1:] + ".Jok", "Q" + deep[1:]), named(deep + ".JoZ"), defined("Jok", deep + ".Jok", deep))
+
+
+long_pairs()
+
+
+def many_names():
+    """Names that share a beginning of 60 bytes; one pair is equal."""
+    names = [long_name(60) + c for c in "JKabcdefghijklmnopqrstuvwxyz_012345"]
+    near_14("many names, the first and the last", *names, names[0])
+    near_14("many names, two neighbours", *names[:20], spelt(names[19], "last", True), *names[20:])
+    near_11("many names, the first and the last", *names, spelt(names[0], "first", False))
+    near_11("many names, an alias and its neighbour", names[:10], names[10:20], names[20:30], names[29:])
+
+
+many_names()
+
 
 def all_cases():
-    return CASES
+    return CASES + NEAR

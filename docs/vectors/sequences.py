@@ -1086,6 +1086,135 @@ def random_ones():
                 say("rows %d" % place)
 
 
+# ---- 25 and 26 over names that nearly agree
+
+def Fn(n, namespace):
+    return '{"type":"fixed","name":^"%s","namespace":"%s","size":4}' % (n, namespace)
+
+
+def near_names():
+    seq("full names that differ in the first byte")
+    add(F("n.JokZ"), (1, 1, 6))
+    add(F("m.JokZ"), (2, 2, 12))
+    add(F("N.JokZ"), (3, 3, 18))
+    for t in (F("n.JokZ"), F("m.JokZ"), Fn("JokZ", "N")):
+        add(t, 25)
+    add('["m.JokZ","N.JokZ","n.JokZ"]', (4, 7, 36))
+    full()
+    seq("full names that differ in the last byte")
+    add(F("n.JokZ"), (1, 1, 6))
+    add(E("n.JokY"), (2, 4, 14))
+    add(R("n.JokX"), (3, 5, 20))
+    for t in (F("n.JokX"), R("n.JokY"), Fn("JokZ", "n"), E(r"n\u002eJok\u005A")):
+        add(t, 25)
+    add('["n.JokX","n.JokZ",^"n.JokW"]', 26)
+    full()
+    seq("full names that differ in a byte in the middle")
+    for i, n in enumerate(("n.JokZ", "n.JpkZ", "n.JoKZ", "n_JokZ", "n.jokZ")):
+        add(F(n), (i + 1, i + 1, 6 * (i + 1)))
+    for n in ("n.jokZ", "n_JokZ", "n.JokZ", "n.JoKZ", "n.JpkZ"):
+        add(F(n), 25)
+    seq("full names that differ in the place of a dot")
+    add(F("a.bc"), (1, 1, 4))
+    add(F("ab.c"), (2, 2, 8))
+    add(F("abc"), (3, 3, 11))
+    add(F("a.b.c"), (4, 4, 16))
+    for t in (Fn("c", "ab"), Fn("bc", "a"), Fn("c", "a.b"), Fn(".abc", "a"), F("a.b.c")):
+        add(t, 25)
+    for n in ("b.c", "a.b", "ab.bc", "a_bc", "c", "bc"):
+        add('^"%s"' % n, 26)
+    add('["ab.c","a.bc","abc","a.b.c"]', (5, 9, 32))
+    full()
+    seq("a full name that is another's prefix, before it and behind it")
+    add(F("n.JokZ"), (1, 1, 6))
+    add(F("n.Jok"), (2, 2, 11))
+    add(F("n.JokZJ"), (3, 3, 18))
+    add(F("n"), (4, 4, 19))
+    for n in ("n.JokZJ", "n.Jok", "n.JokZ", "n"):
+        add(F(n), 25)
+    for n in ("n.J", "n.Jo", "n.JokZJo"):
+        add(ref(n), 26)
+    seq("a full name that is another's suffix, before it and behind it")
+    add(F("n.JokZ"), (1, 1, 6))
+    add(F("JokZ"), (2, 2, 10))
+    add(F("m.n.JokZ"), (3, 3, 18))
+    add(F("okZ"), (4, 4, 21))
+    for t in (F("okZ"), F("n.JokZ"), Fn(".JokZ", "n"), Fn("JokZ", "m.n"), Fn("JokZ", "")):
+        add(t, 25)
+    for n in ("n.okZ", "kZ", "Z", "m.JokZ", "l.n.JokZ"):
+        add(ref(n), 26)
+    seq("names that nearly agree within one declaration")
+    add(R("n.JokZ", '{"type":"fixed","name":"JokY","size":1}', '{"type":"fixed","name":^"JokZ","size":1}').replace("^", "", 1), 25)
+    add(R("n.JokZ", '{"type":"fixed","name":"JokY","size":1}', '{"type":"fixed","name":".JokY","size":1}', '{"type":"enum","name":^"n.JokY","symbols":[]}').replace("^", "", 1), 25)
+    add(R("n.JokZ", '{"type":"fixed","name":"JokY","size":1}', '["JokY",^"JokX"]').replace("^", "", 1), 26)
+    add(R("n.JokZ", '{"type":"fixed","name":"JokY","size":1}', '["JokY","JokZ"]'), (1, 7, 28))
+    full()
+    seq("a reference that differs from the only definition in one byte")
+    add('{"type":"fixed","name":"n.JokZ","aliases":["JokY"],"size":4}', (1, 2, 12))
+    for n in ("m.JokZ", "n_JokZ", "n.KokZ", "n.JpkZ", "n.JoKZ", "n.JokY", "n.Jok", "n.JokZZ", "JokZ", "N.JokZ"):
+        add('^"%s"' % n, 26)
+    add(r'^"n.Jok\u0059"', 26)
+    add(r'^"\u006d.JokZ"', 26)
+    add('"n.JokZ"', (2, 3, 18))
+    add(r'"\u006E\u002e\u004a\u006F\u006b\u005A"', (3, 4, 24))
+    name(2, 0, "n.JokZ")
+    seq("a reference that its namespace makes nearly equal")
+    add(F("n.JokZ"), (1, 1, 6))
+    for space, n in (("m", "JokZ"), ("n", "JokY"), ("n", ".JokZ"), ("n", "n.KokZ"), ("n.n", "JokZ")):
+        add('{"type":"record","name":"%s.R","fields":[{"name":"f","type":^"%s"}]}' % (space, n), 26)
+    add('{"type":"record","name":"n.R","fields":[{"name":"f","type":"JokZ"}]}', (2, 4, 16))
+    add('{"type":"record","name":"m.R","fields":[{"name":"f","type":"n.JokZ"}]}', (3, 7, 26))
+    full()
+    long = declaration_texts.long_name(199)
+    seq("names of 200 bytes that share their beginning")
+    add(F(long + "x"), (1, 1, 200))
+    add(F(long + "y"), (2, 2, 400))
+    add(F(long + "x"), 25)
+    add('^"%sz"' % long, 26)
+    add('^"%s"' % long, 26)
+    add('^"%sy"' % long, (3, 3, 600))
+    swap(0, F(long + "y"), 25, behind=1)
+    swap(1, F(long + "z"), 26, behind=2)
+    seq("names of 200 bytes that share their end")
+    add(F("x" + long), (1, 1, 200))
+    add(F("y" + long), (2, 2, 400))
+    add(F("y" + long), 25)
+    add('^"z%s"' % long, 26)
+    add('"x%s"' % long, (3, 3, 600))
+    swap(1, F("x" + long), 25)
+    seq("a definition replaced by one of a nearly equal name, a reference behind it")
+    add(F("n.JokZ"), (1, 1, 6))
+    add('"int"')
+    add(ref("n.JokZ"), (3, 4, 12))
+    for n in ("m.JokZ", "n.KokZ", "n.JpkZ", "n.JoKZ", "n.JokY", "n.Jok", "n.JokZJ", "JokZ", "n.n.JokZ"):
+        swap(0, F(n), 26, behind=2)
+    swap(0, E("n.JokZ"), (3, 6, 14))
+    full()
+    seq("a definition replaced by one of a nearly equal name, then a reference to the old one")
+    add(F("n.JokZ"), (1, 1, 6))
+    swap(0, F("n.JokY"), (1, 1, 6))
+    add(ref("n.JokZ"), 26)
+    add(ref("n.JokY"), (2, 3, 12))
+    swap(0, F("n.JokZ"), 26, behind=1)
+    swap(1, ref("n.JokZ"), 26)
+    swap(1, F("n.JokZ"), (2, 2, 12))
+    swap(0, F("n.JokZ"), 25, behind=1)
+    swap(0, F("m.JokZ"), (2, 2, 12))
+    add('["n.JokZ",^"n.JokY"]', 26)
+    seq("ten declarations whose names share a beginning")
+    beginning = "org.example.the_same_for_all."
+    for i, c in enumerate("JKabcdefgZ"):
+        add(F(beginning + c), (i + 1, i + 1, 30 * (i + 1)))
+    for c in "ZdJ":
+        add(F(beginning + c), 25)
+    add('["%sJ","%sZ",^"%sj"]' % (beginning, beginning, beginning), 26)
+    swap(0, F(beginning + "Z"), 25, behind=9)
+    swap(9, F(beginning + "J"), 25)
+    swap(5, F(beginning + "Y"), (10, 10, 300))
+    swap(9, ref(beginning + "d"), 26)
+    swap(9, ref(beginning + "J"), (10, 11, 300))
+
+
 # ---- a script for people
 
 def short():
@@ -1141,7 +1270,7 @@ def main(args):
         short()
         write(args[1])
         return
-    for part in (first, refusals, names, replaces, limits, order, memories, canonicals, others, random_ones):
+    for part in (first, refusals, names, replaces, limits, order, memories, canonicals, others, random_ones, near_names):
         part()
     ended()
     if args[0] == "labels":
