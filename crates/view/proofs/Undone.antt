@@ -331,11 +331,11 @@ module _ (s n more left : ℕ) (inv : n + left ≡ s + more) where
 
 -- ---- lengths first
 module _ (a b : List ℕ) {r : Bool} (e : r ≡ eqb (length a) (length b)) where
-  pub unlike : not r ≡ true → false ≡ same a b
-  unlike h = sym (same-unlike a b (eqb-false (length a) (length b) (sym e ∙ not-true r h)))
+  pub lengths-differ : not r ≡ true → false ≡ same a b
+  lengths-differ h = sym (same-unlike a b (eqb-false (length a) (length b) (sym e ∙ not-true r h)))
 
-  pub alike : not r ≡ false → length a ≡ length b
-  alike h = eqb-true (length a) (length b) (sym e ∙ not-false r h)
+  pub lengths-agree : not r ≡ false → length a ≡ length b
+  lengths-agree h = eqb-true (length a) (length b) (sym e ∙ not-false r h)
 
 -- ---- a string against a word
 module _ (w l : List ℕ) (i : ℕ) {x : Bool} (inv : same l (drop i w) ≡ x) where
@@ -353,14 +353,14 @@ module _ (w l : List ℕ) (i : ℕ) {x : Bool} (inv : same l (drop i w) ≡ x) w
     word-turn f = rw (drop-cons w i 0 h, e, eq-eqb b (getD w i 0) (sym f), ← add-one) at inv
 
 -- ---- two strings
-no-bytes : (l : List ℕ) → 0 ≡ length l → l ≡ []
-no-bytes [] e = refl
-no-bytes (b ∷ l) e = absurd (omega arith)
+none-left : (l : List ℕ) → 0 ≡ length l → l ≡ []
+none-left [] e = refl
+none-left (b ∷ l) e = absurd (omega arith)
 
 module _ (l m : List ℕ) {x : Bool} (inv : same l m ≡ x) where
   pub both-end : length l ≡ length m → l ≡ [] → true ≡ x
   unfolding same
-  both-end h e = rw (e, no-bytes m (sym (ap length e) ∙ h)) at inv
+  both-end h e = rw (e, none-left m (sym (ap length e) ∙ h)) at inv
 
   module _ {b : ℕ} {k : List ℕ} (e : l ≡ b ∷ k) where
     pub other-ends : m ≡ [] → false ≡ x

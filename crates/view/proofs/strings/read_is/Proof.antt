@@ -8,7 +8,7 @@ use borrow.Author.Needs.{needs}
 use lib.ListN.{length, drop}
 use Rattle.ground.specs.Bytes.{same}
 use Rattle.view.specs.Strings.{stringAt, leftOf, Within}
-use Rattle.view.proofs.Undone.{read-end, read-byte, read-within, unlike, alike, word-end, word-differ, word-turn}
+use Rattle.view.proofs.Undone.{read-end, read-byte, read-within, lengths-differ, lengths-agree, word-end, word-differ, word-turn}
 use Rattle.view.proofs.strings.read_is.Statement.{statement}
 use Rattle.view.proofs.strings.read_is.Tie as tie
 
@@ -22,7 +22,7 @@ has-length-requires : tie.Need-has-length-requires Inv-loop μ-loop
 has-length-requires c κs = search needs
 
 returns : tie.Need-returns Inv-loop μ-loop
-returns c = unlike _ _ (c .before .has-length .ensures) (c .if1 .taken)
+returns c = lengths-differ _ _ (c .before .has-length .ensures) (c .if1 .taken)
 
 opening-requires : tie.Need-opening-requires Inv-loop μ-loop
 opening-requires c κs = search needs
@@ -30,7 +30,7 @@ opening-requires c κs = search needs
 loop-holds : tie.Need-loop-holds Inv-loop μ-loop
 loop-holds c =
     let s = c .before .before .before .before .before .args in
-    let e = alike (stringAt (s .text .now) (s .at)) (s .word .now) (c .before .before .has-length .ensures) (c .before .if1 .left) in
+    let e = lengths-agree (stringAt (s .text .now) (s .at)) (s .word .now) (c .before .before .has-length .ensures) (c .before .if1 .left) in
     (c .opening .ensures .1, omega (arith, ap length (c .opening .ensures .0)), ap (λ (l : List ℕ). same l (s .word .now)) (c .opening .ensures .0))
 
 next-byte-requires : tie.Need-next-byte-requires Inv-loop μ-loop

@@ -9,7 +9,7 @@ use lib.Dec.{eqb}
 use lib.ListN.{length}
 use Rattle.ground.specs.Bytes.{same}
 use Rattle.view.specs.Strings.{stringAt, leftOf, Within}
-use Rattle.view.proofs.Undone.{read-end, read-byte, read-within, unlike, alike, both-end, other-ends, bytes-differ, bytes-turn}
+use Rattle.view.proofs.Undone.{read-end, read-byte, read-within, lengths-differ, lengths-agree, both-end, other-ends, bytes-differ, bytes-turn}
 use Rattle.view.proofs.strings.read_same.Statement.{statement}
 use Rattle.view.proofs.strings.read_same.Tie as tie
 
@@ -26,7 +26,7 @@ has-length-requires : tie.Need-has-length-requires Inv-loop μ-loop
 has-length-requires c κs = search needs
 
 returns : tie.Need-returns Inv-loop μ-loop
-returns c = unlike _ _ (c .before .has-length .ensures ∙ ap (eqb _) (c .before .before .string-length .ensures)) (c .if1 .taken)
+returns c = lengths-differ _ _ (c .before .has-length .ensures ∙ ap (eqb _) (c .before .before .string-length .ensures)) (c .if1 .taken)
 
 opening-requires : tie.Need-opening-requires Inv-loop μ-loop
 opening-requires c κs = search needs
@@ -37,7 +37,7 @@ opening-requires-2 c κs = search needs
 loop-holds : tie.Need-loop-holds Inv-loop μ-loop
 loop-holds c =
     let s = c .before .before .before .before .before .before .args in
-    let e = alike (stringAt (s .text .now) (s .one)) (stringAt (s .text .now) (s .other)) (c .before .before .before .has-length .ensures ∙ ap (eqb _) (c .before .before .before .before .string-length .ensures)) (c .before .before .if1 .left) in
+    let e = lengths-agree (stringAt (s .text .now) (s .one)) (stringAt (s .text .now) (s .other)) (c .before .before .before .has-length .ensures ∙ ap (eqb _) (c .before .before .before .before .string-length .ensures)) (c .before .before .if1 .left) in
     let z = ap length (c .before .opening .ensures .0) in
     (c .before .opening .ensures .1, c .opening2 .ensures .1, omega (arith, ap length (c .opening2 .ensures .0)), ap₂ same (c .before .opening .ensures .0) (c .opening2 .ensures .0))
 
