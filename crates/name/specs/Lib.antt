@@ -1,3 +1,4 @@
 pub mod Name
 pub mod Full
 pub mod Rule
+pub mod Begin

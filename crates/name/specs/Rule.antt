@@ -1,4 +1,4 @@
--- What two private functions promise: the rule for one byte, and where a last part starts. No public promise rests on
+-- The rule for one byte, and where a last part starts: for functions that work byte by byte. No promise to a user rests on
 -- these. Assumes nothing: these are definitions.
 use Prim.Native.Nat.{ℕ, _-_}
 use mathlib.Core.Bool.{Bool, not, cond, _&&_}

@@ -15,3 +15,4 @@ pub use rule::is_dotted;
 pub use rule::is_name;
 pub use rule::is_namespace;
 pub use rule::is_simple;
+pub use rule::may_stand;

@@ -44,7 +44,7 @@ fn is_later(b: u8) -> bool
 }
 
 // The rule for one byte: `first` where a simple name must start, `dots` where dots may join several.
-fn may_stand(b: u8, first: bool, dots: bool) -> bool
+pub fn may_stand(b: u8, first: bool, dots: bool) -> bool
     ensures { λ r. ⌜ r ≡ mayStand dots first b ⌝ }
 {
     if b == b'.' {

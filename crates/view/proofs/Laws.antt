@@ -21,7 +21,7 @@ use Rattle.view.proofs.Undone.{unit-small}
 pub use Rattle.view.proofs.Places.{in-text, value-in-text, skip-ahead, skip-within, end-ahead, end-within}
 pub use Rattle.view.proofs.Visits.{elements-next, elements-done, elements-few, left-start, left-done, left-next, keys-next, keys-done}
 pub use Rattle.view.proofs.Known.{known-none}
-pub use Rattle.view.proofs.Undone.{bytes-stop, bytes-next, string-short}
+pub use Rattle.view.proofs.Undone.{bytes-stop, bytes-next, string-short, past-stop, stop-in, Holds, part-holds, low-alone, spells-first}
 
 -- every element of a list
 abbrev pub All : {A : Type 0} → (A → Type 0) → List A → Type 0

@@ -170,6 +170,41 @@ part-holds t p = go (eqb (byteAt t p) 92) (eqb (byteAt t (p + 1)) 117) (eqb (uni
     go true false z e = record { some = omega arith; ahead = omega arith; short = omega arith; room = λ (h : p < length t). omega arith }
     go false y z e = record { some = omega arith; ahead = omega arith; short = omega arith; room = λ (h : p < length t). omega arith }
 
+-- a part whose first byte is in ASCII has no other
+utf8-alone : (c b : ℕ) (rest : List ℕ) → utf8Of c ≡ b ∷ rest → b < 128 → rest ≡ []
+unfolding utf8Of
+utf8-alone c b rest e h = go (ltb c 128) (ltb c 2048) (ltb c 65536) e
+  where
+    go : (x y z : Bool) → cond x (c ∷ []) (cond y ((192 + c / 64) ∷ (128 + c % 64) ∷ [])
+        (cond z ((224 + c / 4096) ∷ (128 + c / 64 % 64) ∷ (128 + c % 64) ∷ [])
+        ((240 + c / 262144) ∷ (128 + c / 4096 % 64) ∷ (128 + c / 64 % 64) ∷ (128 + c % 64) ∷ []))) ≡ b ∷ rest → rest ≡ []
+    go true y z e = let f : [] ≡ rest = cc in sym f
+    go false true z e = let f : 192 + c / 64 ≡ b = cc in absurd (omega arith)
+    go false false true e = let f : 224 + c / 4096 ≡ b = cc in absurd (omega arith)
+    go false false false e = let f : 240 + c / 262144 ≡ b = cc in absurd (omega arith)
+
+pub low-alone : (t : List ℕ) (p b : ℕ) (rest : List ℕ) → partAt t p .bytes ≡ b ∷ rest → b < 128 → rest ≡ []
+unfolding partAt
+low-alone t p b rest e h = go (eqb (byteAt t p) 92) (eqb (byteAt t (p + 1)) 117) (eqb (unitAt t (p + 2) / 1024) 54) e
+  where
+    go : (x y z : Bool) → cond x (cond y (cond z
+        (partOf (p + 12) (utf8Of (65536 + unitAt t (p + 2) % 1024 * 1024 + unitAt t (p + 8) % 1024)))
+        (partOf (p + 6) (utf8Of (unitAt t (p + 2))))) (partOf (p + 2) (shortOf (byteAt t (p + 1)) ∷ []))) (partOf (p + 1) (byteAt t p ∷ [])) .bytes ≡ b ∷ rest → rest ≡ []
+    go true true true e = utf8-alone (65536 + unitAt t (p + 2) % 1024 * 1024 + unitAt t (p + 8) % 1024) b rest e h
+    go true true false e = utf8-alone (unitAt t (p + 2)) b rest e h
+    go true false z e = let f : [] ≡ rest = cc in sym f
+    go false y z e = let f : [] ≡ rest = cc in sym f
+
+-- a piece begins with its first byte
+pub spells-first : {x : Piece} {y : Part} → Spells x y → y .bytes ≡ getD (x .bytes) 0 0 ∷ drop 1 (y .bytes)
+spells-first {x} {y} s =
+    let a = s .some in
+    let f = s .four in
+    let l = length-take (x .n) (x .bytes) in
+    let k : 0 < length (take (x .n) (x .bytes)) = omega arith in
+    let b = drop-cons (take (x .n) (x .bytes)) 0 0 k ∙ ap (λ (c : ℕ). c ∷ drop 1 (take (x .n) (x .bytes))) (getD-take (x .n) (x .bytes) 0 0 a) in
+    subst (λ (z : Part). z .bytes ≡ getD (x .bytes) 0 0 ∷ drop 1 (z .bytes)) (s .is) b
+
 -- ---- a string, part by part
 pub past-stop : (t : List ℕ) (p : ℕ) → length t ≤ p → isStop (byteAt t p) ≡ true
 unfolding isStop

@@ -83,7 +83,7 @@ pub record Plainly (t : List ℕ) (p q : ℕ) : Type 0 where
   pub bytes : bytesFrom t p ≡ part t p (q - p) ++ bytesFrom t q
   pub closing : closingOf t 1 0 q ≡ closingOf t 1 0 p
 
--- an escape as a piece of up to four bytes
+-- a part as a piece of up to four bytes
 pub record Spells (x : Piece) (y : Part) : Type 0 where
   pub is : partOf (x .next) (take (x .n) (x .bytes)) ≡ y
   pub some : 0 < x .n

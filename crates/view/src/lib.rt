@@ -29,5 +29,8 @@ pub use sizes::Size;
 pub use sizes::size_literal;
 pub use space::Spot;
 pub use space::value_start;
+pub use strings::Piece;
+pub use strings::is_stop;
+pub use strings::part_at;
 pub use strings::string_length;
 pub use table::find_ends;

@@ -7,7 +7,7 @@ ghost use lib.ListN.{length, set};
 ghost use Rattle.ground.specs.Bytes.{byteAt, same, store};
 ghost use Rattle.view.specs.Strings.{hexOf, unitAt, utf8Of, shortOf, isStop, partOf, Spells, partAt, leftOf, Within, Reads, stringAt, Plainly};
 
-// An escape undone: its first n bytes, and where the next part stands.
+// A part of a string, undone: its first n bytes, and where the next part stands.
 pub struct Piece {
     pub next: usize,
     pub n: usize,
@@ -127,7 +127,8 @@ fn short(b: u8) -> u8
     b
 }
 
-fn is_stop(b: u8) -> bool
+// Does a string end at this byte? On scanned text at the closing quote alone.
+pub fn is_stop(b: u8) -> bool
     ensures { λ r. ⌜ r ≡ isStop b ⌝ }
 {
     if b == b'"' {
@@ -155,6 +156,22 @@ fn escape_at(text: &[u8], at: usize) -> Piece
         return utf8(65536 + u % 1024 * 1024 + l % 1024, at + 12);
     }
     utf8(u, at + 6)
+}
+
+// The part at `at`: the byte that stands there, or an escape.
+pub fn part_at(text: &[u8], at: usize) -> Piece
+    requires { ⌜ at < length (now text) ⌝ }
+    ensures { λ r. ⌜ Spells r (partAt (now (text .entry)) at) ⌝ }
+{
+    let b = byte_at(text, at);
+    if b == b'\\' {
+        return escape_at(text, at);
+    }
+    Piece {
+        next: at + 1,
+        n: 1,
+        bytes: [b, 0, 0, 0],
+    }
 }
 
 pub(crate) fn next_byte(text: &[u8], c: Cursor) -> Step

@@ -3,7 +3,7 @@ use mathlib.Core.Path.{sym, _∙_}
 use native.Mathlib.Omega.{arith}
 use borrow.Author.Needs.{needs}
 use Rattle.name.proofs.Laws.{lead-long, name-else}
-use Rattle.name.proofs.rule.Bytewise.{name-tail}
+use Rattle.name.proofs.Bytewise.{name-tail}
 use Rattle.name.proofs.rule.is_name.Statement.{statement}
 use Rattle.name.proofs.rule.is_name.Tie as tie
 

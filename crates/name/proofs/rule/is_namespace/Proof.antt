@@ -1,7 +1,7 @@
 -- `name::rule::is_namespace` meets its contract. Assumes nothing.
 use mathlib.Core.Path.{_∙_}
 use borrow.Author.Needs.{needs}
-use Rattle.name.proofs.rule.Bytewise.{namespace-none, namespace-some}
+use Rattle.name.proofs.Bytewise.{namespace-none, namespace-some}
 use Rattle.name.proofs.rule.is_namespace.Statement.{statement}
 use Rattle.name.proofs.rule.is_namespace.Tie as tie
 

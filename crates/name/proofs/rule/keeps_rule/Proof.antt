@@ -5,7 +5,7 @@ use Prim.Native.Nat.{_-_}
 use borrow.Author.Needs.{needs}
 use lib.ListN.{length, drop}
 use Rattle.name.specs.Name.{isSimple, isDotted}
-use Rattle.name.proofs.rule.Bytewise.{keeps, keeps-either, keeps-end, keeps-not, keeps-next}
+use Rattle.name.proofs.Bytewise.{keeps, keeps-either, keeps-end, keeps-not, keeps-next}
 use Rattle.name.proofs.rule.keeps_rule.Statement.{statement}
 use Rattle.name.proofs.rule.keeps_rule.Tie as tie
 

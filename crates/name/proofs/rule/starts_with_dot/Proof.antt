@@ -1,6 +1,6 @@
 -- `name::rule::starts_with_dot` meets its contract. Assumes nothing.
 use borrow.Author.Needs.{needs}
-use Rattle.name.proofs.rule.Bytewise.{lead-none, lead-byte}
+use Rattle.name.proofs.Bytewise.{lead-none, lead-byte}
 use Rattle.name.proofs.rule.starts_with_dot.Statement.{statement}
 use Rattle.name.proofs.rule.starts_with_dot.Tie as tie
 

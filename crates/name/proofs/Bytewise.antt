@@ -1,6 +1,6 @@
 -- The rule byte by byte is that of simple names, and of simple names joined by dots. Assumes nothing.
 use mathlib.Core.Path.{_≡_, refl, sym, ap, _∙_}
-use mathlib.Core.Bool.{Bool, true, false, not, cond, _&&_, and-assoc}
+use mathlib.Core.Bool.{Bool, true, false, not, cond, _&&_, and-assoc, and-eq-true-iff}
 use mathlib.Core.List.{List, [], _∷_}
 use Prim.Native.Nat.{ℕ, _+_, _-_, _<_, _≤_}
 use native.Mathlib.Numerals.{add-one}
@@ -74,6 +74,7 @@ pub keeps-dotted : (s : List ℕ) → keeps true true s ≡ isDotted s
 unfolding isDotted
 keeps-dotted s = joins s .start
 
+-- by the rule that is asked for
 pub keeps-either : (dots : Bool) (s : List ℕ) → keeps dots true s ≡ cond dots (isDotted s) (isSimple s)
 keeps-either true s = keeps-dotted s
 keeps-either false s = keeps-simple s
@@ -115,3 +116,19 @@ namespace-none s e = rw (empty-none s e)
 pub namespace-some : (s : List ℕ) → (length s ≡ 0 → ⊥) → isDotted s ≡ isNamespace s
 unfolding isNamespace
 namespace-some s n = rw (empty-some s n)
+
+-- ---- from one byte on
+module _ (dots first : Bool) (b : ℕ) (s : List ℕ) where
+  -- what follows a byte that may stand
+  pub keeps-on : mayStand dots first b ≡ true → keeps dots first (b ∷ s) ≡ keeps dots (eqb b dot) s
+  unfolding keeps
+  keeps-on e = rw e
+
+  -- behind one that may not, nothing helps
+  pub keeps-off : mayStand dots first b ≡ false → keeps dots first (b ∷ s) ≡ false
+  unfolding keeps
+  keeps-off e = rw e
+
+  pub keeps-front : keeps dots first (b ∷ s) ≡ true → (mayStand dots first b ≡ true) × (keeps dots (eqb b dot) s ≡ true)
+  unfolding keeps
+  keeps-front e = and-eq-true-iff (mayStand dots first b) (keeps dots (eqb b dot) s) .0 e

@@ -1,2 +1,0 @@
--- What the proofs on the rule use.
-mod Bytewise
