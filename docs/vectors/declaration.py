@@ -4,8 +4,9 @@
     python3 docs/vectors/declaration.py crates/schema_run      writes stdin and stdout there
     python3 docs/vectors/declaration.py cases                  every text with its label and answer
 
-Written from document 01, its sections Text, Names, Rows and Numbers returned, and from nothing else; the scan for 1, 2 and 3
-is that of scan.py. The texts stand in declaration_texts.py, each with the answer that was worked out by hand.
+Written from document 01, its sections Text, Names, Rows and Numbers returned, and for the position of 7 from request A2 of 02,
+and from nothing else; the scan for 1, 2 and 3 is that of scan.py. The texts stand in declaration_texts.py, each with the answer
+that was worked out by hand.
 
 stdin has a text to a line in hexadecimal digits, `-` for no bytes. stdout has for each text either `refused NUMBER POSITION`,
 or `row KIND DEPTH POSITION SIZE NOTE PRECISION SCALE HEX` for each row and then `end ROWS BYTES`, the number of rows and of
@@ -37,10 +38,11 @@ class Refused(Exception):
 
 class Value:
     """kind is string, number, word, array or object. inside is a string's bytes with escapes undone, a number's or word's
-    bytes as written, an array's values, or an object's pairs of key and value."""
+    bytes as written, an array's values, or an object's pairs of key and value. written is what stands between a string's
+    quotes."""
 
-    def __init__(self, kind, at, inside):
-        self.kind, self.at, self.inside = kind, at, inside
+    def __init__(self, kind, at, inside, written=None):
+        self.kind, self.at, self.inside, self.written = kind, at, inside, written
 
     def member(self, key):
         """The value of a key, None where it is missing. A key given twice: the last counts."""
@@ -77,7 +79,7 @@ def value_at(text, at):
         end = at + 1
         while text[end] != ord('"'):
             end += 2 if text[end] == ord("\\") else 1
-        return Value("string", at, undone(text[at + 1:end])), end + 1
+        return Value("string", at, undone(text[at + 1:end]), text[at + 1:end]), end + 1
     if c == b"[":
         inside, here = [], skip(text, at + 1)
         while text[here] != ord("]"):
@@ -126,6 +128,27 @@ def is_name(s):
     return is_joined(s) or (s[:1] == b"." and is_simple(s[1:]))
 
 
+def is_namespace(s):
+    return s == b"" or is_joined(s)
+
+
+# a character as it is written: a pair of surrogate escapes, another escape, or a character of UTF-8
+CHARACTER = re.compile(rb"\\u[Dd][89ABab]..\\u....|\\u....|\\.|[\x00-\x7f]|[\xc0-\xff][\x80-\xbf]+", re.S)
+
+
+def broken_at(s, rule):
+    """Where a string that does not keep a rule stops keeping it: at the first character that makes what is read so far the
+    beginning of no string that keeps it; at the closing quote if no character does. Each of the rules lets a letter stand
+    first, behind a dot and behind a letter, a digit or _: so what can be gone on with is what one more letter makes good."""
+    end = 0
+    for c in CHARACTER.finditer(s.written):
+        if not rule(undone(s.written[:c.end()]) + b"a"):
+            return s.at + 1 + c.start()
+        end = c.end()
+    assert end == len(s.written)
+    return s.at + 1 + end
+
+
 def full_name(s, space):
     """The full name of a name in a namespace; b"" is none."""
     if b"." not in s:
@@ -150,6 +173,12 @@ def refuse(number, position):
 def refuse_unless(fact, number, position):
     if not fact:
         refuse(number, position)
+
+
+def must_keep(rule, s):
+    """7: a string that must be a name, a namespace or a simple name."""
+    if not rule(s.inside):
+        refuse(7, broken_at(s, rule))
 
 
 class Walk:
@@ -197,7 +226,7 @@ class Walk:
             told(("kind", kind))
             self.row(kind, depth, s.at, b"", 0, *note)
             return
-        refuse_unless(is_name(s.inside), 7, s.at)
+        must_keep(is_name, s)
         full = full_name(s.inside, space)
         refuse_unless(len(full) <= LONGEST_STRING, 9, s.at)
         told(("name", full))
@@ -225,10 +254,10 @@ class Walk:
         """The name, 19 and the aliases; the definition's own namespace."""
         name = v.member(b"name")
         refuse_unless(name is not None and name.kind == "string", 6, v.at)
-        refuse_unless(is_name(name.inside), 7, name.at)
+        must_keep(is_name, name)
         given = v.member(b"namespace")
         if b"." not in name.inside and given is not None and given.kind == "string":
-            refuse_unless(given.inside == b"" or is_joined(given.inside), 7, given.at)
+            must_keep(is_namespace, given)
             space = given.inside
         full = full_name(name.inside, space)
         refuse_unless(last_part(full) not in RESERVED, 8, name.at)
@@ -237,7 +266,7 @@ class Walk:
         self.row(kind, depth, name.at, full, *numbers)
         own = space_of(full)
         for alias in aliases(v):
-            refuse_unless(is_name(alias.inside), 7, alias.at)
+            must_keep(is_name, alias)
             known_as = full_name(alias.inside, own)
             refuse_unless(last_part(known_as) not in RESERVED, 8, alias.at)
             refuse_unless(len(known_as) <= LONGEST_STRING, 9, alias.at)
@@ -269,7 +298,7 @@ class Walk:
         self.schema(t, space, depth + 1, nobody)
 
     def simple(self, kind, s, depth):
-        refuse_unless(is_simple(s.inside), 7, s.at)
+        must_keep(is_simple, s)
         refuse_unless(len(s.inside) <= LONGEST_STRING, 9, s.at)
         self.row(kind, depth, s.at, s.inside)
 

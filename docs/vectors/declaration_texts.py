@@ -1,5 +1,6 @@
 #!/usr/bin/env python3
-"""The texts of declaration.py, each with the answer that was worked out by hand from document 01.
+"""The texts of declaration.py, each with the answer that was worked out by hand from document 01 and, where 7 stands, from
+request A2 of 02.
 
 In a text ^ marks the byte where the refusal must stand and is left out; in an accepted text the marks, if there are any, are
 the positions of all rows. ~40~ stands for the letter n forty times. Rows are written `DEPTH KIND STRING`, with `=SIZE` and
@@ -276,63 +277,72 @@ no(6, "in the second field before 11", '{"type":"record","name":"R","fields":[{"
 
 # ---- 7: not a name, namespace or symbol
 
-BAD = ["", ".", "..", "a.", "a..b", ".a.b", "..a", ".a.", "a.b.", "1", "1a", "a.1", ".1", "a-b", "a b", " a", "a ", "a/b", "a:b", "a$", "é", "aé", "a.é", "日本", "-", "a\u200b", "а", "\U0001d5ba", "ａ", "a,b", "[]", "a.b-c.d"]
+# In these strings ^ marks the character that breaks the rule; at the end it is the closing quote's mark.
+
+
+def bad(b):
+    """A string without its mark, for a label."""
+    return ascii(b.replace("^", ""))
+
+
+BAD = ["^", ".^", ".^.", "a.^", "a.^.b", ".a^.b", ".^.a", ".a^.", "a.b.^", "^1", "^1a", "a.^1", ".^1", "a^-b", "a^ b", "^ a", "a^ ", "a^/b", "a^:b", "a^$", "^é", "a^é", "a.^é", "^日本", "^-", "a^\u200b", "^а",
+       "^\U0001d5ba", "^ａ", "a^,b", "^[]", "a.b^-c.d"]
 for i, b in enumerate(BAD):
-    no(7, "as reference %d %s" % (i, ascii(b)), '^"%s"' % b)
-    no(7, "as name of a record %d %s" % (i, ascii(b)), '{"type":"record","name":^"%s","fields":[]}' % b)
-for i, b in enumerate([".", "..", "a.", ".a", "a..b", ".a.b", "1", "a.1", "a-b", " ", "é", "a.é", "a. b"]):
-    no(7, "as namespace %d %s" % (i, ascii(b)), '{"type":"record","name":"R","namespace":^"%s","fields":[]}' % b)
-for i, b in enumerate(["", ".", "a.b", ".a", "1", "a-b", "a b", "é", "a.", "Aé"]):
-    no(7, "as symbol %d %s" % (i, ascii(b)), '{"type":"enum","name":"E","symbols":["A",^"%s"]}' % b)
-    no(7, "as field %d %s" % (i, ascii(b)), '{"type":"record","name":"R","fields":[{"name":^"%s","type":"int"}]}' % b)
-    no(7, "as field alias %d %s" % (i, ascii(b)), '{"type":"record","name":"R","fields":[{"name":"f","aliases":["g",^"%s"],"type":"int"}]}' % b)
-for i, b in enumerate(["", ".", "a.", "..a", ".a.b", "1", "a-b", "é", "a..b"]):
-    no(7, "as alias of a record %d %s" % (i, ascii(b)), '{"type":"record","name":"R","aliases":["a",^"%s"],"fields":[]}' % b)
-    no(7, "as alias of an enum %d %s" % (i, ascii(b)), '{"type":"enum","name":"E","aliases":[^"%s"],"symbols":[]}' % b)
-    no(7, "as alias of a fixed %d %s" % (i, ascii(b)), '{"type":"fixed","name":"F","size":1,"aliases":["x.y",".z",^"%s","1"]}' % b)
-no(7, "a reference in an object", '{"type":^"a b"}')
-no(7, "an empty type", '{"type":^""}')
-no(7, "a type with a capital and a blank", '{"type": ^"record "}')
-no(7, "an escape that makes a blank", r'^"a\u0020b"')
-no(7, "an escape that makes a line end", r'^"a\n"')
-no(7, "an escape of a slash", r'^"a\/b"')
-no(7, "a null character", r'^"a\u0000"')
-no(7, "a pair of surrogates", r'^"a\uD835\uDDBA"')
-no(7, "a quote in a name", r'{"type":"record","name":^"a\"b","fields":[]}')
-no(7, "an escape of é in a symbol", r'{"type":"enum","name":"E","symbols":[^"\u00e9"]}')
-no(7, "an escaped dot in a field", r'{"type":"record","name":"R","fields":[{"name":^"a\u002Eb","type":"int"}]}')
-no(7, "in items", '{"type":"array","items":^"1"}')
-no(7, "in values", '{"type":"map","values":{"type":^"1"}}')
-no(7, "a member", '["null", ^"1"]')
-no(7, "the name before the namespace, namespace first", '{"namespace":"1","type":"record","name":^"2","fields":[]}')
-no(7, "the name before the namespace, name first", '{"name":^"2","namespace":"1","type":"record","fields":[]}')
-no(7, "the namespace before 8 of the name", '{"type":"record","name":"int","namespace":^"1","fields":[]}')
-no(7, "the namespace before 9 of the name", '{"type":"record","name":"~256~","namespace":^"1","fields":[]}')
-no(7, "the name before 10", '{"type":"record","name":^"1"}')
-no(7, "the namespace before 7 of an alias", '{"type":"record","name":"R","aliases":["1"],"namespace":^"2","fields":[]}')
-no(7, "an alias before 8 of a later alias", '{"type":"record","name":"R","aliases":[^"1","int"],"fields":[]}')
-no(7, "an alias before 10", '{"type":"record","name":"R","aliases":[^"1"]}')
-no(7, "an alias before 12", '{"type":"enum","name":"E","aliases":[^"1"]}')
-no(7, "an alias before 13", '{"type":"enum","symbols":[5],"name":"E","aliases":[^"1"]}')
-no(7, "a name before 9 of it: 256 bytes and a bad one", '{"type":"record","name":^"~256~-","fields":[]}')
-no(7, "a reference before 9 of it", '^"~256~-"')
-no(7, "a symbol before 9 of it", '{"type":"enum","name":"E","symbols":[^"~256~-"]}')
-no(7, "a field before 9 of it", '{"type":"record","name":"R","fields":[{"name":^"~256~.a","type":"int"}]}')
-no(7, "a first symbol before 9 of the second", '{"type":"enum","name":"E","symbols":[^"1","~256~"]}')
-no(7, "a symbol before 14 behind it", '{"type":"enum","name":"E","symbols":["A",^"1","A"]}')
-no(7, "a symbol before 15", '{"type":"enum","name":"E","default":1,"symbols":[^"1"]}')
-no(7, "a bad symbol given twice", '{"type":"enum","name":"E","symbols":[^"1","1"]}')
-no(7, "a fixed's name behind its size", '{"type":"fixed","name":^"1","size":4}')
-no(7, "a fixed's namespace", '{"type":"fixed","name":"F","namespace":^"a.","size":4}')
-no(7, "an enum's namespace", '{"type":"enum","namespace":^"a b","name":"F","symbols":[]}')
-no(7, "a namespace that is escaped", r'{"type":"record","name":"R","namespace":^"\u0031","fields":[]}')
-no(7, "a field's name before 5", '{"type":"record","name":"R","fields":[{"name":^"1"}]}')
-no(7, "a field's alias before 5", '{"type":"record","name":"R","fields":[{"name":"f","aliases":[^"1"]}]}')
-no(7, "a field's alias before its type's 4", '{"type":"record","name":"R","fields":[{"type":5,"name":"f","aliases":[^"1"]}]}')
-no(7, "a field with a dotted name", '{"type":"record","name":"R","namespace":"a","fields":[{"name":^"a.f","type":"int"}]}')
-no(7, "an inner record's name in a union", '["null",{"type":"record","name":^"R-","fields":[]}]')
-no(7, "the last of two namespaces counts", '{"type":"record","name":"R","namespace":"a","namespace":^"1","fields":[]}')
-no(7, "two bad references, the first", '[^"1","2"]')
+    no(7, "as reference %d %s" % (i, bad(b)), '"%s"' % b)
+    no(7, "as name of a record %d %s" % (i, bad(b)), '{"type":"record","name":"%s","fields":[]}' % b)
+for i, b in enumerate(["^.", "^..", "a.^", "^.a", "a.^.b", "^.a.b", "^1", "a.^1", "a^-b", "^ ", "^é", "a.^é", "a.^ b"]):
+    no(7, "as namespace %d %s" % (i, bad(b)), '{"type":"record","name":"R","namespace":"%s","fields":[]}' % b)
+for i, b in enumerate(["^", "^.", "a^.b", "^.a", "^1", "a^-b", "a^ b", "^é", "a^.", "A^é"]):
+    no(7, "as symbol %d %s" % (i, bad(b)), '{"type":"enum","name":"E","symbols":["A","%s"]}' % b)
+    no(7, "as field %d %s" % (i, bad(b)), '{"type":"record","name":"R","fields":[{"name":"%s","type":"int"}]}' % b)
+    no(7, "as field alias %d %s" % (i, bad(b)), '{"type":"record","name":"R","fields":[{"name":"f","aliases":["g","%s"],"type":"int"}]}' % b)
+for i, b in enumerate(["^", ".^", "a.^", ".^.a", ".a^.b", "^1", "a^-b", "^é", "a.^.b"]):
+    no(7, "as alias of a record %d %s" % (i, bad(b)), '{"type":"record","name":"R","aliases":["a","%s"],"fields":[]}' % b)
+    no(7, "as alias of an enum %d %s" % (i, bad(b)), '{"type":"enum","name":"E","aliases":["%s"],"symbols":[]}' % b)
+    no(7, "as alias of a fixed %d %s" % (i, bad(b)), '{"type":"fixed","name":"F","size":1,"aliases":["x.y",".z","%s","1"]}' % b)
+no(7, "a reference in an object", '{"type":"a^ b"}')
+no(7, "an empty type", '{"type":"^"}')
+no(7, "a type with a capital and a blank", '{"type": "record^ "}')
+no(7, "an escape that makes a blank", r'"a^\u0020b"')
+no(7, "an escape that makes a line end", r'"a^\n"')
+no(7, "an escape of a slash", r'"a^\/b"')
+no(7, "a null character", r'"a^\u0000"')
+no(7, "a pair of surrogates", r'"a^\uD835\uDDBA"')
+no(7, "a quote in a name", r'{"type":"record","name":"a^\"b","fields":[]}')
+no(7, "an escape of é in a symbol", r'{"type":"enum","name":"E","symbols":["^\u00e9"]}')
+no(7, "an escaped dot in a field", r'{"type":"record","name":"R","fields":[{"name":"a^\u002Eb","type":"int"}]}')
+no(7, "in items", '{"type":"array","items":"^1"}')
+no(7, "in values", '{"type":"map","values":{"type":"^1"}}')
+no(7, "a member", '["null", "^1"]')
+no(7, "the name before the namespace, namespace first", '{"namespace":"1","type":"record","name":"^2","fields":[]}')
+no(7, "the name before the namespace, name first", '{"name":"^2","namespace":"1","type":"record","fields":[]}')
+no(7, "the namespace before 8 of the name", '{"type":"record","name":"int","namespace":"^1","fields":[]}')
+no(7, "the namespace before 9 of the name", '{"type":"record","name":"~256~","namespace":"^1","fields":[]}')
+no(7, "the name before 10", '{"type":"record","name":"^1"}')
+no(7, "the namespace before 7 of an alias", '{"type":"record","name":"R","aliases":["1"],"namespace":"^2","fields":[]}')
+no(7, "an alias before 8 of a later alias", '{"type":"record","name":"R","aliases":["^1","int"],"fields":[]}')
+no(7, "an alias before 10", '{"type":"record","name":"R","aliases":["^1"]}')
+no(7, "an alias before 12", '{"type":"enum","name":"E","aliases":["^1"]}')
+no(7, "an alias before 13", '{"type":"enum","symbols":[5],"name":"E","aliases":["^1"]}')
+no(7, "a name before 9 of it: 256 bytes and a bad one", '{"type":"record","name":"~256~^-","fields":[]}')
+no(7, "a reference before 9 of it", '"~256~^-"')
+no(7, "a symbol before 9 of it", '{"type":"enum","name":"E","symbols":["~256~^-"]}')
+no(7, "a field before 9 of it", '{"type":"record","name":"R","fields":[{"name":"~256~^.a","type":"int"}]}')
+no(7, "a first symbol before 9 of the second", '{"type":"enum","name":"E","symbols":["^1","~256~"]}')
+no(7, "a symbol before 14 behind it", '{"type":"enum","name":"E","symbols":["A","^1","A"]}')
+no(7, "a symbol before 15", '{"type":"enum","name":"E","default":1,"symbols":["^1"]}')
+no(7, "a bad symbol given twice", '{"type":"enum","name":"E","symbols":["^1","1"]}')
+no(7, "a fixed's name behind its size", '{"type":"fixed","name":"^1","size":4}')
+no(7, "a fixed's namespace", '{"type":"fixed","name":"F","namespace":"a.^","size":4}')
+no(7, "an enum's namespace", '{"type":"enum","namespace":"a^ b","name":"F","symbols":[]}')
+no(7, "a namespace that is escaped", r'{"type":"record","name":"R","namespace":"^\u0031","fields":[]}')
+no(7, "a field's name before 5", '{"type":"record","name":"R","fields":[{"name":"^1"}]}')
+no(7, "a field's alias before 5", '{"type":"record","name":"R","fields":[{"name":"f","aliases":["^1"]}]}')
+no(7, "a field's alias before its type's 4", '{"type":"record","name":"R","fields":[{"type":5,"name":"f","aliases":["^1"]}]}')
+no(7, "a field with a dotted name", '{"type":"record","name":"R","namespace":"a","fields":[{"name":"a^.f","type":"int"}]}')
+no(7, "an inner record's name in a union", '["null",{"type":"record","name":"R^-","fields":[]}]')
+no(7, "the last of two namespaces counts", '{"type":"record","name":"R","namespace":"a","namespace":"^1","fields":[]}')
+no(7, "two bad references, the first", '["^1","2"]')
 yes("a bad namespace given twice, the last good", "0 record b.R", '{"type":"record","name":^"R","namespace":"1","namespace":"b","fields":[]}')
 yes("a bad namespace beside a dotted name", "0 record a.R", '{"type":"record","name":"a.R","namespace":"1","fields":[]}')
 yes("a bad namespace beside a leading dot", "0 record R", '{"type":"record","name":".R","namespace":"..","fields":[]}')
@@ -677,13 +687,13 @@ no(19, "a union in a union by a type before its members' faults", '[^{"type":["i
 no(4, "in a member that would be twice", '["int",{"type":^5}]')
 no(5, "in a member before 19 of the next", '["int",^{},"int"]')
 no(6, "in a member before 19 of the next", '["R",^{"type":"record","fields":[]},"R"]')
-no(7, "in a member of a namespace before 19", '["a.R",{"type":"record","name":"R","namespace":^"a.","fields":[]}]')
-no(7, "in a member's parts before 19 of the next", '["int",{"type":"array","items":^"1"},"int"]')
+no(7, "in a member of a namespace before 19", '["a.R",{"type":"record","name":"R","namespace":"a.^","fields":[]}]')
+no(7, "in a member's parts before 19 of the next", '["int",{"type":"array","items":"^1"},"int"]')
 no(11, "in a member before 19 of the next", '["R",{"type":"record","name":"S","fields":[{"name":"f","type":"int"},{"name":^"f","type":"int"}]},"R"]')
 no(16, "in a member before 19 of the next", '["R",{"type":"enum","name":"S","symbols":["A"],"default":^"B"},"R"]')
 no(19, "in a field before 11 of its record", '{"type":"record","name":"R","fields":[{"name":"f","type":"int"},{"name":"f","type":["int",^"int"]}]}')
 no(19, "in the first field before 7 in the second", '{"type":"record","name":"R","fields":[{"name":"f","type":["int",^"int"]},{"name":"1","type":"int"}]}')
-no(7, "in the first field before 19 in the second", '{"type":"record","name":"R","fields":[{"name":^"1","type":"int"},{"name":"f","type":["int","int"]}]}')
+no(7, "in the first field before 19 in the second", '{"type":"record","name":"R","fields":[{"name":"^1","type":"int"},{"name":"f","type":["int","int"]}]}')
 
 # ---- namespaces
 
@@ -819,7 +829,7 @@ yes("keys that are not ASCII", "0 int", '{"tÿpe":1,"😀":{},"type":^"int"}')
 yes("brackets and quotes in strings", "0 record R; 1 field f; 2 int", r'{"doc":"}]{[\"\\","type":"record","name":^"R","x\"y":"\\\"","fields":[{"doc":"\\","name":^"f","type":^"int"}]}')
 yes("numbers of all forms in unknown members", "0 int", '{"a":-0,"b":1E+9,"c":0.5e-3,"d":[1,-2.5],"type":^"int"}')
 yes("words in unknown members", "0 int", '{"a":true,"b":[false,null,{"type":null}],"type":^"int"}')
-no(7, "a position behind text that is not ASCII", '{"type":"record","doc":"é😀","name":^"1","fields":[]}')
+no(7, "a position behind text that is not ASCII", '{"type":"record","doc":"é😀","name":"^1","fields":[]}')
 no(16, "a position behind escapes", r'{"type":"enum","doc":"\u00e9\"","name":"E","symbols":["A"],"default": ^"\u0042"}')
 no(14, "a position behind a long run of white space", '{"type":"enum","name":"E","symbols":["A",' + " " * 500 + '^"A"]}')
 no(4, "at the end of a long text", '{"type":"array","doc":"' + "x" * 3000 + '","items":^5}')
@@ -860,10 +870,10 @@ no(11, "the last of 500 fields", '{"type":"record","name":"R","fields":[' + ",".
 # stands at the object.
 
 N256 = '"' + "n" * 256 + '"'
-NAMES = [(6, "object", {"name": None}), (6, "object", {"name": "5"}), (7, "", {"name": '^"1"'}), (7, "", {"namespace": '^"a."'}),
+NAMES = [(6, "object", {"name": None}), (6, "object", {"name": "5"}), (7, "", {"name": '"^1"'}), (7, "", {"namespace": '"a.^"'}),
          (8, "", {"name": '^"int"'}), (9, "", {"name": "^" + N256})]
-ALIASES = [(7, "", {"aliases": '["A",^"b c"]'}), (8, "", {"aliases": '["A",^"x.enum"]'}), (9, "", {"aliases": '[^' + N256 + ',"1"]'})]
-FIELD = [(6, '^{"type":"int"}'), (7, '{"name":^"1","type":"int"}'), (9, '{"name":^' + N256 + ',"type":"int"}'), (7, '{"name":"f","aliases":["g",^"a.b"],"type":"int"}'),
+ALIASES = [(7, "", {"aliases": '["A","b^ c"]'}), (8, "", {"aliases": '["A",^"x.enum"]'}), (9, "", {"aliases": '[^' + N256 + ',"1"]'})]
+FIELD = [(6, '^{"type":"int"}'), (7, '{"name":"^1","type":"int"}'), (9, '{"name":^' + N256 + ',"type":"int"}'), (7, '{"name":"f","aliases":["g","a^.b"],"type":"int"}'),
          (9, '{"name":"f","aliases":[^' + N256 + '],"type":"int"}'), (5, '^{"name":"f","aliases":["g"]}'), (4, '{"name":"f","type":^5}'), (5, '{"name":"f","type":^{}}'),
          (19, '{"name":"f","type":["int",^"int"]}'), (27, '{"name":"f","type":^{"type":"array"}}'), (17, '{"name":"f","type":^{"type":"fixed"}}'),
          (11, '{"name":"f","type":"int"},{"name":^"f","type":"int"}')]
@@ -871,7 +881,7 @@ PLACES = {
     "record": [({"type": '"record"', "name": '"R"', "namespace": '"s"', "aliases": '["Q"]', "fields": '[{"name":"f","type":"int"}]'}),
                NAMES + ALIASES + [(10, "object", {"fields": None}), (10, "object", {"fields": "{}"})] + [(n, "", {"fields": "[" + f + "]"}) for n, f in FIELD]],
     "enum": [({"type": '"enum"', "name": '"E"', "namespace": '"s"', "aliases": '["Q"]', "symbols": '["A"]', "default": '"A"'}),
-             NAMES + ALIASES + [(12, "object", {"symbols": None}), (13, "", {"symbols": '["A",^5]'}), (7, "", {"symbols": '["A",^"-"]'}), (9, "", {"symbols": '["A",^' + N256 + "]"}),
+             NAMES + ALIASES + [(12, "object", {"symbols": None}), (13, "", {"symbols": '["A",^5]'}), (7, "", {"symbols": '["A","^-"]'}), (9, "", {"symbols": '["A",^' + N256 + "]"}),
                                 (14, "", {"symbols": '["A",^"A"]'}), (15, "", {"default": "^5"}), (16, "", {"default": '^"B"'})]],
     "fixed": [({"type": '"fixed"', "size": "4", "name": '"F"', "namespace": '"s"', "aliases": '["Q"]'}),
               [(17, "object", {"size": None}), (18, "", {"size": "^-4"})] + NAMES + ALIASES],
@@ -946,6 +956,11 @@ class Maker:
     def quoted(self, s):
         out = "".join("\\u%04x" % ord(c) if self.rng.random() < 0.03 else c for c in s)
         return '"' + out + '"'
+
+    def broken(self, s, mark):
+        """A string in quotes, with the mark of its 7 where ^ stands; at the end it is the closing quote's mark."""
+        before, after = s.split("^")
+        return [self.quoted(before)[:-1], mark, self.quoted(after)[1:]]
 
     def members(self, pairs):
         pairs = list(pairs)
@@ -1026,7 +1041,7 @@ class Maker:
         return [("logicalType", '"decimal"')] + list(given.items()), (note, p if note == 1 else 0, s if note == 1 else 0)
 
     def reference(self, space, depth, taken):
-        m, s = Mark(), self.fresh()
+        m, b, s = Mark(), Mark(), self.fresh()
         how = self.rng.randrange(4)
         if how == 0:
             written, full = "." + s, s
@@ -1034,13 +1049,13 @@ class Maker:
             written = full = "q." + s
         else:
             written, full = s, (space + "." + s if space else s)
-        if self.here(7, m):
-            written = self.rng.choice(("1", "a b", "a.", "", "é"))
+        if self.here(7, b):
+            return [m, self.broken(self.rng.choice(("^1", "a^ b", "a.^", "^", "^é")), b)], []
         return [m, self.quoted(written)], [("reference", depth, m, full, 0, 0, 0, 0)]
 
     def named(self, space, depth, kind, obj, size=0, note=(0, 0, 0)):
         """Members name, namespace and aliases; the rows; the own namespace."""
-        m, s, out = Mark(), self.fresh(), []
+        m, b, s, out = Mark(), Mark(), self.fresh(), []
         how = self.rng.randrange(6)
         if how == 0:
             written, full = "." + s, s
@@ -1052,14 +1067,15 @@ class Maker:
         elif how == 3:
             ns = self.rng.choice(("a", "b.c", "long.int"))
             written, full, n = s, ns + "." + s, Mark()
-            out.append(("namespace", [n, '"1x"' if self.here(7, n) else self.quoted(ns)]))
+            out.append(("namespace", ['"', n, '1x"'] if self.here(7, n) else self.quoted(ns)))
         else:
             written, full = s, (space + "." + s if space else s)
         name = [m, self.quoted(written)]
         if self.here(6, obj):
             name = self.rng.choice(("5", "null", '["x"]'))
-        elif self.here(7, m):
-            name = [m, self.rng.choice(('""', '"a-b"', '".a.b"', '"a..b"'))]
+        elif self.here(7, b):
+            before, after = self.rng.choice(('"^"', '"a^-b"', '".a^.b"', '"a.^.b"')).split("^")
+            name = [m, before, b, after]
         elif self.here(8, m):
             name = [m, self.rng.choice(('"int"', '"a.record"', '".null"'))]
         elif self.here(9, m):
@@ -1070,13 +1086,12 @@ class Maker:
         if self.rng.random() < 0.4:
             items = []
             for _ in range(self.rng.randint(0, 3)):
-                a, s = Mark(), self.fresh()
+                a, b, s = Mark(), Mark(), self.fresh()
                 w, f = self.rng.choice(((s, own + "." + s if own else s), ("." + s, s), ("k.l." + s, "k.l." + s)))
-                if self.here(7, a):
-                    w = "-"
-                elif self.here(8, a):
-                    w = "z.string"
-                items.append([a, self.quoted(w)])
+                if self.here(7, b):
+                    items.append(self.broken("^-", b))
+                else:
+                    items.append([a, self.quoted("z.string" if self.here(8, a) else w)])
                 rows.append(("alias", depth + 1, a, f, 0, 0, 0, 0))
             out.append(("aliases", self.listed(items)))
         return out, rows, own
@@ -1088,21 +1103,21 @@ class Maker:
         for _ in range(self.rng.randint(0, 4)):
             if self.rng.random() < 0.1:
                 fields.append(self.rng.choice(("5", '"f"', "[]", "null")))
-            f, m, s = Mark(), Mark(), self.fresh()
+            f, m, b, s = Mark(), Mark(), Mark(), self.fresh()
             name = [m, self.quoted(s)]
             if names and self.here(11, m):
                 name = [m, self.quoted(self.rng.choice(names))]
             elif self.here(6, f):
                 name = "null"
-            elif self.here(7, m):
-                name = [m, '"a.b"']
+            elif self.here(7, b):
+                name = ['"a', b, '.b"']
             pairs = [("name", name)]
             rows.append(("field", depth + 1, m, s, 0, 0, 0, 0))
             also = []
             if self.rng.random() < 0.3:
                 for _ in range(self.rng.randint(0, 2)):
                     a, t = Mark(), self.rng.choice(names + [self.fresh()])
-                    also.append((t, [a, '".x"' if self.here(7, a) else self.quoted(t)]))
+                    also.append((t, ['"', a, '.x"'] if self.here(7, a) else [a, self.quoted(t)]))
                     rows.append(("field-alias", depth + 2, a, t, 0, 0, 0, 0))
                 pairs.append(("aliases", self.listed([x for _, x in also])))
             names += [s] + [t for t, _ in also]
@@ -1121,12 +1136,12 @@ class Maker:
         out, rows, _ = self.named(space, depth, "enum", obj)
         items, names = [], []
         for _ in range(self.rng.randint(1, 5)):
-            m, s = Mark(), self.fresh()
+            m, b, s = Mark(), Mark(), self.fresh()
             v = [m, self.quoted(s)]
             if self.here(13, m):
                 v = [m, "7"]
-            elif self.here(7, m):
-                v = [m, '"b.c"']
+            elif self.here(7, b):
+                v = ['"b', b, '.c"']
             elif names and self.here(14, m):
                 v = [m, self.quoted(self.rng.choice(names))]
             items.append(v)

@@ -2,14 +2,21 @@
 """Holds crates/declare/stdout, what the program for people prints, to the model of replay.py: each declaration of crates/declare/stdin (a JSON text
 sequence) is added in turn, and its block must have the model's place, rows, canonical text and fingerprint, or the refusal with its line and column.
 
+Behind the line and column of a refusal that has a byte stand a piece of the text's line and a caret under the byte. The piece begins with four
+columns, blank or `... `, and then has the line from its beginning, or from 60 bytes before the position where that is later; each byte is one column. Behind
+the caret of a 7 at a character that is not ASCII (an escape undone) stands a blank and the character's number, as U+0416; else nothing does.
+
     python3 docs/vectors/declared.py        (at the root of the repository)
 """
+import json
 import os
 import re
 import subprocess
 import sys
 
 HERE = os.path.dirname(os.path.abspath(__file__))
+WITHOUT_A_BYTE = ("20", "21", "22", "23", "24", "29")
+ESCAPE = re.compile(rb"\\u[Dd][89ABab]..\\u....|\\u....|\\.", re.S)
 
 
 def model(lines):
@@ -18,11 +25,38 @@ def model(lines):
     return run.stdout.rstrip("\n").split("\n")
 
 
-def refused(number, text, answer):
+def character(text, at):
+    """The character that stands at a position, an escape undone."""
+    escape = ESCAPE.match(text, at)
+    return json.loads(b'"' + escape.group() + b'"') if escape else text[at:at + 4].decode("utf-8", "ignore")[0]
+
+
+def behind_caret(why, text, at):
+    return " U+%04X" % ord(character(text, at)) if why == "7" and not character(text, at).isascii() else ""
+
+
+def pointed(why, text, at, piece, caret):
+    """Are these the piece of the text and the caret for a refusal at a byte?"""
+    begin = text.rfind(b"\n", 0, at) + 1
+    shown = max(begin, at - 60)
+    before = text[shown:at]
+    return (piece[:4] == ("... " if shown > begin else "    ") and len(piece) >= 4 + len(before)
+            and all(c == chr(b) for c, b in zip(piece[4:], before) if 32 <= b < 127)
+            and caret == " " * (4 + len(before)) + "^" + behind_caret(why, text, at))
+
+
+def refused(number, text, answer, block):
     why, place, position = answer.split()[1:]
-    at = int(position)
-    line, column = text[:at].count(b"\n") + 1, at - text[:at].rfind(b"\n")
-    return ["text %d: refusal %s, place %s, position %s\n" % (number, why, place, position), "\n  line %d, column %d\n" % (line, column)]
+    wanted = ["text %d: refusal %s, place %s, position %s\n" % (number, why, place, position)]
+    if why not in WITHOUT_A_BYTE:
+        at = int(position)
+        where = "  line %d, column %d" % (text[:at].count(b"\n") + 1, at - text[:at].rfind(b"\n"))
+        wanted.append("\n" + where + "\n")
+        lines = block.split("\n")
+        assert where in lines, (wanted, block)
+        piece, caret = lines[lines.index(where) + 1:][:2]
+        assert pointed(why, text, at, piece, caret), (position, behind_caret(why, text, at), block)
+    return wanted
 
 
 def row_says(line, number, row):
@@ -51,7 +85,7 @@ def main():
     place = 0
     for i, (text, answer, block) in enumerate(zip(texts, answers, blocks)):
         if answer.startswith("refused"):
-            wanted = refused(i + 1, text, answer)
+            wanted = refused(i + 1, text, answer, block)
         else:
             wanted = accepted(i + 1, place, script[:i + 2], block)
             place += 1
@@ -60,4 +94,5 @@ def main():
     print(len(texts), "declarations as the model has them")
 
 
-main()
+if __name__ == "__main__":
+    main()

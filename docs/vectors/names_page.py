@@ -40,7 +40,7 @@ def said(call, answer):
 
 
 def main(folder):
-    page = open("docs/NAMES.md").read()
+    page = open("docs/NAMES.md", encoding="utf-8").read()
     calls, script = [], []
     for block in blocks(page):
         script.append("open")

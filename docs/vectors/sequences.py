@@ -6,9 +6,10 @@
     python3 docs/vectors/sequences.py labels                     each sequence's first line and what it is about
 
 Each sequence starts with `memory 51266`, `fill 0`, `open`. Beside each call stands what it must answer, worked out by hand from
-document 01: the number of a refusal, whose position is marked by ^ in the text at fault, or the counts. Two things are tried of
-every call that changes the set: a refusal leaves the digest as it was; and the memory is the one that adding the same texts to
-an empty set gives. Of a refused replacement it is tried that adding the edited list one by one is refused in the same way.
+document 01 and, where 7 stands, from request A2 of 02: the number of a refusal, whose position is marked by ^ in the text at
+fault, or the counts. Two things are tried of every call that changes the set: a refusal leaves the digest as it was; and the
+memory is the one that adding the same texts to an empty set gives. Of a refused replacement it is tried that adding the edited
+list one by one is refused in the same way.
 """
 import os
 import random
@@ -791,7 +792,7 @@ def order():
     seq("a fault of the declaration before 23")
     many = ",".join(['"a"'] * 1030)
     add('{"type":"enum","name":"E","aliases":[%s],"symbols":["A",^"A"]}' % many, 14)
-    add('{"type":"fixed","name":"R","aliases":[%s,^"1"],"size":0}' % many, 7)
+    add('{"type":"fixed","name":"R","aliases":[%s,"^1"],"size":0}' % many, 7)
     seq("a fault of the declaration before 24")
     add('{"type":"record","name":"R","namespace":"~250~","aliases":[%s],"fields":[^{"type":"int"}]}' % ",".join(['"a"'] * 70), 6)
     add('{"type":"record","name":"R","namespace":"~250~","aliases":[%s,^"int"],"fields":[]}' % ",".join(['"a"'] * 70), 8)
@@ -1215,6 +1216,41 @@ def near_names():
     swap(9, ref(beginning + "J"), (10, 11, 300))
 
 
+# ---- 7 in a replacement: at the character, the escape or the closing quote
+
+def breaches():
+    seq("a replacement refused by 7 at a letter, an escape, a dot")
+    add(F("n.Account"), (1, 1, 9))
+    add(E("n.E"), (2, 4, 14))
+    add(ref("n.Account"), (3, 6, 23))
+    swap(0, '{"type":"fixed","name":"n.Acc^\u043eunt","size":4}', 7)
+    swap(0, r'{"type":"fixed","name":"n.Acc^\u043eunt","size":4}', 7)
+    swap(1, r'{"type":"enum","name":"n.E","aliases":["\u0044","ab^\ud83d\ude00."],"symbols":["A"]}', 7)
+    swap(2, '{"type":"array","items":".a^.b"}', 7)
+    swap(2, r'{"type":"array","items":"n\u002e^\u002eAccount"}', 7)
+    swap(3, '{"type":"array","items":".a.b"}', 21)
+    full()
+    name(0, 0, "n.Account")
+    seq("a replacement refused by 7 at the closing quote, and at the dot of a field")
+    add(F("F"), (1, 1, 1))
+    add('{"type":"enum","name":"E","symbols":["A","B"]}', (2, 4, 4))
+    swap(1, '{"type":"enum","name":"E","symbols":["A","^"]}', 7)
+    swap(1, '{"type":"enum","name":"E","namespace":"a.^","symbols":["A"]}', 7)
+    swap(0, r'{"type":"fixed","name":"a\u002e^","size":4}', 7)
+    swap(0, '{"type":"record","name":"F","fields":[{"name":"f","aliases":["g","^"],"type":"int"}]}', 7)
+    swap(0, '{"type":"record","name":"F","fields":[{"name":"g","type":"int"},{"name":"a^.","type":"int"}]}', 7)
+    full()
+    seq("a replacement refused by 7 before 9, 25 and 26 of it and of those behind")
+    add(F("F"), (1, 1, 1))
+    add(ref("F"), (2, 3, 2))
+    add(F("G"), (3, 4, 3))
+    swap(0, '{"type":"fixed","name":"~298~^\u0436","size":4}', 7)
+    swap(0, '{"type":"record","name":"G","fields":[{"name":"f","type":["X","Y^\u043e"]}]}', 7)
+    swap(1, '[{"type":"fixed","name":"F","size":1},"X",{"type":"fixed","name":"Y","aliases":["^\U0001f600"],"size":1}]', 7)
+    swap(0, F("F"), (3, 4, 3))
+    full()
+
+
 # ---- a script for people
 
 def short():
@@ -1237,7 +1273,7 @@ def short():
     text_of(3, 3, 44, (29, 42))
     add('{"type":"int"^', 2)
     add('["int",^"int"]', 19)
-    add('{"type":"record","name":^"1R","fields":[]}', 7)
+    add('{"type":"record","name":"^1R","fields":[]}', 7)
     add(F("F"), 25)
     add(ref("a.D"), 26)
     swap(1, '"int"', 26, behind=3)
@@ -1259,7 +1295,7 @@ def short():
 def write(where):
     os.makedirs(where, exist_ok=True)
     stdin, stdout = "\n".join(LINES) + "\n", "\n".join(ANSWERS) + "\n"
-    assert len(stdin) < 900000 and len(stdout) < 2000000, (len(stdin), len(stdout))
+    assert len(stdin) < 920000 and len(stdout) < 2000000, (len(stdin), len(stdout))
     open(os.path.join(where, "stdin"), "w").write(stdin)
     open(os.path.join(where, "stdout"), "w").write(stdout)
     print(len(SEQUENCES), "sequences,", len(LINES), "lines,", len(stdin), "bytes;", len(ANSWERS), "answers,", len(stdout), "bytes", file=sys.stderr)
@@ -1270,7 +1306,7 @@ def main(args):
         short()
         write(args[1])
         return
-    for part in (first, refusals, names, replaces, limits, order, memories, canonicals, others, random_ones, near_names):
+    for part in (first, refusals, names, replaces, limits, order, memories, canonicals, others, random_ones, near_names, breaches):
         part()
     ended()
     if args[0] == "labels":

@@ -43,12 +43,12 @@ dotted-long [] e = never (sym (dotted-some [] e) ∙ empty-none [] refl)
 dotted-long (b ∷ s) e = omega arith
 
 module _ (t : List ℕ) (q : ℕ) (e : simpleCheck t q ≡ Fine) where
-  simple-parts : (must (isSimple (stringAt t q)) (notAName t q) ≡ Fine) × (kept (stringAt t q) q ≡ Fine)
+  simple-parts : (must (isSimple (stringAt t q)) (notAName isSimple t q) ≡ Fine) × (kept (stringAt t q) q ≡ Fine)
   unfolding simpleCheck
-  simple-parts = then-fine (must (isSimple (stringAt t q)) (notAName t q)) (kept (stringAt t q) q) e
+  simple-parts = then-fine (must (isSimple (stringAt t q)) (notAName isSimple t q)) (kept (stringAt t q) q) e
 
   pub simple-fine : isSimple (stringAt t q) ≡ true
-  simple-fine = must-fine (isSimple (stringAt t q)) (notAName t q) (simple-parts .0)
+  simple-fine = must-fine (isSimple (stringAt t q)) (notAName isSimple t q) (simple-parts .0)
 
   pub simple-sized : Sized (stringAt t q)
   simple-sized = record {
@@ -69,15 +69,15 @@ module _ (t namespace : List ℕ) (q : ℕ) (n : isNamespace namespace ≡ true)
   pub reference-fine : referenceCheck t namespace q ≡ Fine → Full (fullAt t namespace q)
   unfolding referenceCheck fullAt
   reference-fine e =
-      let a = then-fine (must (isName (stringAt t q)) (notAName t q)) (kept (fullName namespace (stringAt t q)) q) e in
+      let a = then-fine (must (isName (stringAt t q)) (notAName isName t q)) (kept (fullName namespace (stringAt t q)) q) e in
       full-of (fullName namespace (stringAt t q))
-      (full-dotted namespace (stringAt t q) n (must-fine (isName (stringAt t q)) (notAName t q) (a .0)))
+      (full-dotted namespace (stringAt t q) n (must-fine (isName (stringAt t q)) (notAName isName t q) (a .0)))
       (kept-short (fullName namespace (stringAt t q)) _ (a .1))
 
   module _ (e : aliasCheck t namespace q ≡ Fine) where
-    alias-parts : (must (isName (stringAt t q)) (notAName t q) ≡ Fine) × (unreserved (fullAt t namespace q) q then kept (fullAt t namespace q) q ≡ Fine)
+    alias-parts : (must (isName (stringAt t q)) (notAName isName t q) ≡ Fine) × (unreserved (fullAt t namespace q) q then kept (fullAt t namespace q) q ≡ Fine)
     unfolding aliasCheck
-    alias-parts = then-fine (must (isName (stringAt t q)) (notAName t q)) (unreserved (fullAt t namespace q) q then kept (fullAt t namespace q) q) e
+    alias-parts = then-fine (must (isName (stringAt t q)) (notAName isName t q)) (unreserved (fullAt t namespace q) q then kept (fullAt t namespace q) q) e
 
     alias-rest : (unreserved (fullAt t namespace q) q ≡ Fine) × (kept (fullAt t namespace q) q ≡ Fine)
     alias-rest = then-fine (unreserved (fullAt t namespace q) q) (kept (fullAt t namespace q) q) (alias-parts .1)
@@ -86,7 +86,7 @@ module _ (t namespace : List ℕ) (q : ℕ) (n : isNamespace namespace ≡ true)
     unfolding fullAt
     alias-fine =
         full-of (fullName namespace (stringAt t q))
-        (full-dotted namespace (stringAt t q) n (must-fine (isName (stringAt t q)) (notAName t q) (alias-parts .0)))
+        (full-dotted namespace (stringAt t q) n (must-fine (isName (stringAt t q)) (notAName isName t q) (alias-parts .0)))
         (kept-short (fullName namespace (stringAt t q)) _ (alias-rest .1))
 
     pub alias-free : isReserved (fullAt t namespace q) ≡ false
@@ -98,8 +98,8 @@ module _ (t enclosing : List ℕ) (m : Members) (q : ℕ) (n : isNamespace enclo
   unfolding namespaceCheck namespaceOf
   namespace-fine d e = go (asText t (m .namespace)) (rw d at e)
     where
-      go : (s : Spot) → onSpot s (λ w. must (isNamespace (stringAt t w)) (notAName t w)) Fine ≡ Fine → isNamespace (onSpot s (stringAt t) enclosing) ≡ true
-      go (At w) f = must-fine (isNamespace (stringAt t w)) (notAName t w) f
+      go : (s : Spot) → onSpot s (λ w. must (isNamespace (stringAt t w)) (notAName isNamespace t w)) Fine ≡ Fine → isNamespace (onSpot s (stringAt t) enclosing) ≡ true
+      go (At w) f = must-fine (isNamespace (stringAt t w)) (notAName isNamespace t w) f
       go Nowhere f = n
 
   defined-dotted : (d : Bool) → hasDot (stringAt t q) ≡ d → isName (stringAt t q) ≡ true → namespaceCheck t m q ≡ Fine → isDotted (definedAt t enclosing m q) ≡ true
@@ -109,11 +109,11 @@ module _ (t enclosing : List ℕ) (m : Members) (q : ℕ) (n : isNamespace enclo
   defined-dotted false d e f = full-dotted (namespaceOf t enclosing m) (stringAt t q) (namespace-fine d f) e
 
   module _ (e : definitionCheck t enclosing m q ≡ Fine) where
-    named-parts : (must (isName (stringAt t q)) (notAName t q) ≡ Fine)
+    named-parts : (must (isName (stringAt t q)) (notAName isName t q) ≡ Fine)
         × (namespaceCheck t m q then unreserved (definedAt t enclosing m q) q then kept (definedAt t enclosing m q) q ≡ Fine)
     unfolding definitionCheck
     named-parts =
-        then-fine (must (isName (stringAt t q)) (notAName t q))
+        then-fine (must (isName (stringAt t q)) (notAName isName t q))
         (namespaceCheck t m q then unreserved (definedAt t enclosing m q) q then kept (definedAt t enclosing m q) q) e
 
     space-parts : (namespaceCheck t m q ≡ Fine) × (unreserved (definedAt t enclosing m q) q then kept (definedAt t enclosing m q) q ≡ Fine)
@@ -125,7 +125,7 @@ module _ (t enclosing : List ℕ) (m : Members) (q : ℕ) (n : isNamespace enclo
     pub definition-fine : Full (definedAt t enclosing m q)
     definition-fine =
         full-of (definedAt t enclosing m q)
-        (defined-dotted (hasDot (stringAt t q)) refl (must-fine (isName (stringAt t q)) (notAName t q) (named-parts .0)) (space-parts .0))
+        (defined-dotted (hasDot (stringAt t q)) refl (must-fine (isName (stringAt t q)) (notAName isName t q) (named-parts .0)) (space-parts .0))
         (kept-short (definedAt t enclosing m q) _ (last-parts .1))
 
     pub definition-free : isReserved (definedAt t enclosing m q) ≡ false

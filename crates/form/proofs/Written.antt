@@ -11,7 +11,7 @@ use lib.ListN.{length, take, drop}
 use lib.Seq.{take-append-seam}
 use borrow.Author.Tests.{le-leb, lt-leb}
 use Rattle.answer.specs.declared.refusal.Fault.{Fault}
-use Rattle.answer.specs.declared.refusal.Why.the-variants.{NotAName, StringTooLong, Reserved}
+use Rattle.answer.specs.declared.refusal.Why.the-variants.{StringTooLong, Reserved}
 use Rattle.ground.specs.Bytes.{part, store}
 use Rattle.ground.proofs.Laws.{length-part, length-store, store-fits}
 use Rattle.name.specs.declared.qualify.Full.{Full}
@@ -107,16 +107,16 @@ kept-copied (Bad x) f m e g h k = let z : _≡_ {A = ℕ} 0 1 = cc in absurd (om
 
 -- ---- simple names
 
-module _ (w : List ℕ) (q : ℕ) {b : Bool} (f : b ≡ isSimple w) where
-  pub simple-not : b ≡ false → Bad (fault NotAName q) ≡ (must (isSimple w) (fault NotAName q) then kept w q)
-  simple-not g = rw (← f, g)
+module _ (t w : List ℕ) (q : ℕ) {b : Bool} (f : b ≡ isSimple w) where
+  pub simple-not : b ≡ false → {x : Fault} → x ≡ notAName isSimple t q → Bad x ≡ (must (isSimple w) (notAName isSimple t q) then kept w q)
+  simple-not g h = rw (← f, g, h)
 
-  pub simple-kept : b ≡ true → {r : Check} → r ≡ must (leb (length w) 255) (fault StringTooLong q) → r ≡ (must (isSimple w) (fault NotAName q) then kept w q)
+  pub simple-kept : b ≡ true → {r : Check} → r ≡ must (leb (length w) 255) (fault StringTooLong q) → r ≡ (must (isSimple w) (notAName isSimple t q) then kept w q)
   unfolding isShort
   simple-kept g i = rw (← f, g) i
 
 -- of the string at q
-pub simple-at : (t : List ℕ) (q : ℕ) {w : List ℕ} → w ≡ stringAt t q → {r : Check} → r ≡ (must (isSimple w) (fault NotAName q) then kept w q) → r ≡ simpleCheck t q
+pub simple-at : (t : List ℕ) (q : ℕ) {w : List ℕ} → w ≡ stringAt t q → {r : Check} → r ≡ (must (isSimple w) (notAName isSimple t q) then kept w q) → r ≡ simpleCheck t q
 unfolding simpleCheck
 simple-at t q e h = h ∙ rw e
 
@@ -151,31 +151,31 @@ module _ (namespace s m : List ℕ) (q : ℕ) {b : Bool} (e : b ≡ isReserved s
       (rw (full-reserved namespace s, ← e, f)) h
 
 module _ (t namespace : List ℕ) (q : ℕ) (m : List ℕ) {w : List ℕ} (e : w ≡ stringAt t q) {b : Bool} (f : b ≡ isName w) where
-  pub reference-not : b ≡ false → {x : Fault} → x ≡ notAName t q → Answers (referenceCheck t namespace q) (fullAt t namespace q) m m (Wrong x)
+  pub reference-not : b ≡ false → {x : Fault} → x ≡ notAName isName t q → Answers (referenceCheck t namespace q) (fullAt t namespace q) m m (Wrong x)
   unfolding referenceCheck
   reference-not g {x} h =
-      answers-bad (must (isName (stringAt t q)) (notAName t q)) (kept (fullAt t namespace q) q) (fullAt t namespace q) m x (fails isName e f g h)
+      answers-bad (must (isName (stringAt t q)) (notAName isName t q)) (kept (fullAt t namespace q) q) (fullAt t namespace q) m x (fails isName e f g h)
 
-  pub alias-not : b ≡ false → {x : Fault} → x ≡ notAName t q → Answers (aliasCheck t namespace q) (fullAt t namespace q) m m (Wrong x)
+  pub alias-not : b ≡ false → {x : Fault} → x ≡ notAName isName t q → Answers (aliasCheck t namespace q) (fullAt t namespace q) m m (Wrong x)
   unfolding aliasCheck
   alias-not g {x} h =
-      answers-bad (must (isName (stringAt t q)) (notAName t q)) (unreserved (fullAt t namespace q) q then kept (fullAt t namespace q) q) (fullAt t namespace q) m x
+      answers-bad (must (isName (stringAt t q)) (notAName isName t q)) (unreserved (fullAt t namespace q) q then kept (fullAt t namespace q) q) (fullAt t namespace q) m x
       (fails isName e f g h)
 
   module _ (g : b ≡ true) {m′ : List ℕ} {r : Named} where
     pub reference-kept : Answers (kept (fullName namespace w) q) (fullName namespace w) m m′ r → Answers (referenceCheck t namespace q) (fullAt t namespace q) m m′ r
     unfolding referenceCheck fullAt
     reference-kept h =
-        answers-next (must (isName (stringAt t q)) (notAName t q)) (kept (fullName namespace (stringAt t q)) q) (fullName namespace (stringAt t q)) m m′ r
-        (passes isName (notAName t q) e f g) (rw e at h)
+        answers-next (must (isName (stringAt t q)) (notAName isName t q)) (kept (fullName namespace (stringAt t q)) q) (fullName namespace (stringAt t q)) m m′ r
+        (passes isName (notAName isName t q) e f g) (rw e at h)
 
     pub alias-kept : Answers (unreserved (fullName namespace w) q then kept (fullName namespace w) q) (fullName namespace w) m m′ r
         → Answers (aliasCheck t namespace q) (fullAt t namespace q) m m′ r
     unfolding aliasCheck fullAt
     alias-kept h =
-        answers-next (must (isName (stringAt t q)) (notAName t q))
+        answers-next (must (isName (stringAt t q)) (notAName isName t q))
         (unreserved (fullName namespace (stringAt t q)) q then kept (fullName namespace (stringAt t q)) q) (fullName namespace (stringAt t q)) m m′ r
-        (passes isName (notAName t q) e f g) (rw e at h)
+        (passes isName (notAName isName t q) e f g) (rw e at h)
 
 -- ---- a name without a dot, in the namespace that is written at w
 
@@ -188,10 +188,10 @@ full-longer namespace s e = go (isEmpty namespace) refl
     go false f = omega (arith, rw (e, f) at (length-full namespace s))
 
 module _ (t : List ℕ) (w n q : ℕ) (word m : List ℕ) {v : List ℕ} (o : v ≡ stringAt t w) {y : Bool} (z : y ≡ isNamespace v) where
-  pub spaced-not : y ≡ false → {x : Fault} → x ≡ notAName t w → Answers (spacedCheck t w (part word 0 n) q) (fullName (stringAt t w) (part word 0 n)) m m (Wrong x)
+  pub spaced-not : y ≡ false → {x : Fault} → x ≡ notAName isNamespace t w → Answers (spacedCheck t w (part word 0 n) q) (fullName (stringAt t w) (part word 0 n)) m m (Wrong x)
   unfolding spacedCheck
   spaced-not u {x} h =
-      answers-bad (must (isNamespace (stringAt t w)) (notAName t w))
+      answers-bad (must (isNamespace (stringAt t w)) (notAName isNamespace t w))
       (unreserved (fullName (stringAt t w) (part word 0 n)) q then kept (fullName (stringAt t w) (part word 0 n)) q) (fullName (stringAt t w) (part word 0 n)) m x
       (fails isNamespace o z u h)
 
@@ -201,9 +201,9 @@ module _ (t : List ℕ) (w n q : ℕ) (word m : List ℕ) {v : List ℕ} (o : v 
         → Answers (spacedCheck t w (part word 0 n) q) (fullName (stringAt t w) (part word 0 n)) m m′ r
     unfolding spacedCheck
     spaced-by {m′} {r} h =
-        answers-next (must (isNamespace (stringAt t w)) (notAName t w))
+        answers-next (must (isNamespace (stringAt t w)) (notAName isNamespace t w))
         (unreserved (fullName (stringAt t w) (part word 0 n)) q then kept (fullName (stringAt t w) (part word 0 n)) q) (fullName (stringAt t w) (part word 0 n)) m m′ r
-        (passes isNamespace (notAName t w) o z u) (rw o at h)
+        (passes isNamespace (notAName isNamespace t w) o z u) (rw o at h)
 
     pub spaced-reserved : b ≡ true → Answers (spacedCheck t w (part word 0 n) q) (fullName (stringAt t w) (part word 0 n)) m m (Wrong (fault Reserved q))
     spaced-reserved f = spaced-by (given-reserved v (part word 0 n) m q (e ∙ ap isReserved (lent-front word n)) f)
@@ -229,10 +229,10 @@ unfolding fullName
 full-fixed a b s h = rw h
 
 module _ (t enclosing : List ℕ) (d : Members) (q : ℕ) (m : List ℕ) {w : List ℕ} (e : w ≡ stringAt t q) {b : Bool} (f : b ≡ isName w) where
-  pub definition-not : b ≡ false → {x : Fault} → x ≡ notAName t q → Answers (definitionCheck t enclosing d q) (definedAt t enclosing d q) m m (Wrong x)
+  pub definition-not : b ≡ false → {x : Fault} → x ≡ notAName isName t q → Answers (definitionCheck t enclosing d q) (definedAt t enclosing d q) m m (Wrong x)
   unfolding definitionCheck
   definition-not g {x} h =
-      answers-bad (must (isName (stringAt t q)) (notAName t q))
+      answers-bad (must (isName (stringAt t q)) (notAName isName t q))
       (namespaceCheck t d q then unreserved (definedAt t enclosing d q) q then kept (definedAt t enclosing d q) q) (definedAt t enclosing d q) m x
       (fails isName e f g h)
 
@@ -243,9 +243,9 @@ module _ (t enclosing : List ℕ) (d : Members) (q : ℕ) (m : List ℕ) {w : Li
         → Answers (definitionCheck t enclosing d q) (definedAt t enclosing d q) m m′ r
     unfolding definitionCheck
     named-in {m′} {r} n a i h =
-        answers-next (must (isName (stringAt t q)) (notAName t q))
+        answers-next (must (isName (stringAt t q)) (notAName isName t q))
         (namespaceCheck t d q then unreserved (definedAt t enclosing d q) q then kept (definedAt t enclosing d q) q) (definedAt t enclosing d q) m m′ r
-        (passes isName (notAName t q) e f g)
+        (passes isName (notAName isName t q) e f g)
         (answers-next (namespaceCheck t d q) (unreserved (definedAt t enclosing d q) q then kept (definedAt t enclosing d q) q) (definedAt t enclosing d q) m m′ r a
         (rw i (rw e at h)))
 
@@ -261,11 +261,11 @@ module _ (t enclosing : List ℕ) (d : Members) (q : ℕ) (m : List ℕ) {w : Li
           named-in enclosing (rw (dots i)) (full-fixed (namespaceOf t enclosing d) enclosing (stringAt t q) (dots i)) u
 
       module _ (i : c ≡ false) {s : Spot} (j : s ≡ asText t (d .namespace)) where
-        space-by : {s′ : Spot} → s ≡ s′ → namespaceCheck t d q ≡ onSpot s′ (λ p. must (isNamespace (stringAt t p)) (notAName t p)) Fine
+        space-by : {s′ : Spot} → s ≡ s′ → namespaceCheck t d q ≡ onSpot s′ (λ p. must (isNamespace (stringAt t p)) (notAName isNamespace t p)) Fine
         unfolding namespaceCheck
         space-by k =
             rw (dots i)
-            (ap (λ (x : Spot). onSpot x (λ p. must (isNamespace (stringAt t p)) (notAName t p)) Fine) (sym j ∙ k))
+            (ap (λ (x : Spot). onSpot x (λ p. must (isNamespace (stringAt t p)) (notAName isNamespace t p)) Fine) (sym j ∙ k))
 
         full-by : {s′ : Spot} → s ≡ s′ → definedAt t enclosing d q ≡ fullName (onSpot s′ (stringAt t) enclosing) (stringAt t q)
         unfolding definedAt fullAt namespaceOf
@@ -282,7 +282,7 @@ module _ (t enclosing : List ℕ) (d : Members) (q : ℕ) (m : List ℕ) {w : Li
             → Answers (definitionCheck t enclosing d q) (definedAt t enclosing d q) m m′ r
         unfolding definitionCheck spacedCheck
         definition-space {p} k word n l {m′} {r} h =
-            answers-next (must (isName (stringAt t q)) (notAName t q))
+            answers-next (must (isName (stringAt t q)) (notAName isName t q))
             (namespaceCheck t d q then unreserved (definedAt t enclosing d q) q then kept (definedAt t enclosing d q) q) (definedAt t enclosing d q) m m′ r
-            (passes isName (notAName t q) e f g)
+            (passes isName (notAName isName t q) e f g)
             (rw (space-by k, full-by k) (rw (sym (lent-front word n) ∙ l) at h))

@@ -10,6 +10,7 @@ use Rattle.ground.specs.Bytes.{store}
 use Rattle.name.specs.Name.{isSimple, isName, isNamespace, hasDot, fullName, isReserved}
 use Rattle.name.specs.Full.{isShort}
 use Rattle.view.specs.Strings.{stringAt}
+use Rattle.breach.specs.Breach.{breachAt}
 use Rattle.view.specs.declared.members.Members.{Members}
 use Rattle.form.specs.declared.check.Check.{Check}
 use Rattle.form.specs.declared.check.Check.the-variants.{Fine, Bad}
@@ -18,9 +19,14 @@ use Rattle.form.specs.declared.names.Named.the-variants.{Kept, Wrong}
 use Rattle.form.specs.Checks.{fault, must, _then_}
 use Rattle.form.specs.Spots.{onSpot, asText}
 
--- 7 stands at the string that breaks the rule
-abbrev pub notAName : List ℕ → ℕ → Fault
-notAName t q = fault NotAName q
+-- 7 stands where the string at q breaks the rule: at the first character after which no string that keeps it can follow, or at the
+-- closing quote
+abbrev pub notAName : (List ℕ → Bool) → List ℕ → ℕ → Fault
+notAName keeps t q = fault NotAName (breachAt keeps t q)
+
+-- the string at q has to keep the rule
+abbrev pub mustKeep : (List ℕ → Bool) → List ℕ → ℕ → Check
+mustKeep keeps t q = must (keeps (stringAt t q)) (notAName keeps t q)
 
 abbrev pub kept : List ℕ → ℕ → Check
 kept s q = must (isShort s) (fault StringTooLong q)
@@ -30,18 +36,18 @@ unreserved full q = must (not (isReserved full)) (fault Reserved q)
 
 -- a field's name or alias, a symbol: a simple name
 unfoldable pub simpleCheck : List ℕ → ℕ → Check
-simpleCheck t q = must (isSimple (stringAt t q)) (notAName t q) then kept (stringAt t q) q
+simpleCheck t q = mustKeep isSimple t q then kept (stringAt t q) q
 
 -- the full name of the string at q, in a namespace
 unfoldable pub fullAt : List ℕ → List ℕ → ℕ → List ℕ
 fullAt t namespace q = fullName namespace (stringAt t q)
 
 unfoldable pub referenceCheck : List ℕ → List ℕ → ℕ → Check
-referenceCheck t namespace q = must (isName (stringAt t q)) (notAName t q) then kept (fullAt t namespace q) q
+referenceCheck t namespace q = mustKeep isName t q then kept (fullAt t namespace q) q
 
 unfoldable pub aliasCheck : List ℕ → List ℕ → ℕ → Check
 aliasCheck t namespace q =
-    must (isName (stringAt t q)) (notAName t q)
+    mustKeep isName t q
     then unreserved (fullAt t namespace q) q
     then kept (fullAt t namespace q) q
 
@@ -59,11 +65,11 @@ definedAt t enclosing m q = fullAt t (namespaceOf t enclosing m) q
 unfoldable pub namespaceCheck : List ℕ → Members → ℕ → Check
 namespaceCheck t m q =
     cond (hasDot (stringAt t q)) Fine
-    (onSpot (asText t (m .namespace)) (λ w. must (isNamespace (stringAt t w)) (notAName t w)) Fine)
+    (onSpot (asText t (m .namespace)) (λ w. mustKeep isNamespace t w) Fine)
 
 unfoldable pub definitionCheck : List ℕ → List ℕ → Members → ℕ → Check
 definitionCheck t enclosing m q =
-    must (isName (stringAt t q)) (notAName t q)
+    mustKeep isName t q
     then namespaceCheck t m q
     then unreserved (definedAt t enclosing m q) q
     then kept (definedAt t enclosing m q) q
@@ -71,7 +77,7 @@ definitionCheck t enclosing m q =
 -- what is left of it for a name s at q, without a dot, in the namespace that is written at w
 unfoldable pub spacedCheck : List ℕ → ℕ → List ℕ → ℕ → Check
 spacedCheck t w s q =
-    must (isNamespace (stringAt t w)) (notAName t w)
+    mustKeep isNamespace t w
     then unreserved (fullName (stringAt t w) s) q
     then kept (fullName (stringAt t w) s) q
 

@@ -4,6 +4,9 @@ use super::check::must;
 use super::spots::as_text;
 use answer::Fault;
 use answer::Why;
+use breach::name_breach;
+use breach::namespace_breach;
+use breach::simple_breach;
 use ground::copy;
 use name::Full;
 use name::full_name;
@@ -21,11 +24,10 @@ ghost use mathlib.Core.Bool.{false};
 ghost use Prim.Native.Nat.{_≤_};
 ghost use lib.ListN.{length};
 ghost use Rattle.ground.specs.Bytes.{part, store};
-ghost use Rattle.answer.specs.declared.refusal.Why.the-variants.{NotAName};
-ghost use Rattle.name.specs.Name.{isSimple, hasDot, fullName};
+ghost use Rattle.name.specs.Name.{isSimple, isName, isNamespace, hasDot, fullName};
 ghost use Rattle.view.specs.Strings.{stringAt};
 ghost use Rattle.view.specs.Known.{Known};
-ghost use Rattle.form.specs.Checks.{fault, must, _then_};
+ghost use Rattle.form.specs.Checks.{must, _then_};
 ghost use Rattle.form.specs.Names.{notAName, kept, unreserved, simpleCheck, fullAt, referenceCheck, aliasCheck, definedAt, spacedCheck, definitionCheck, named, keptIn};
 
 // What became of a full name: its length, it being kept, or the fault.
@@ -34,25 +36,42 @@ pub enum Named {
     Wrong(Fault),
 }
 
-// Where 7 stands.
-fn not_a_name(text: &[u8], at: usize) -> Fault
-    ensures { λ r. ⌜ r ≡ notAName (now (text .entry)) at ⌝ }
+// 7, and where the string at `at` breaks the rule of simple names.
+fn not_simple(text: &[u8], at: usize) -> Fault
+    ensures { λ r. ⌜ r ≡ notAName isSimple (now (text .entry)) at ⌝ }
 {
     Fault {
         why: Why::NotAName,
-        at,
+        at: simple_breach(text, at),
     }
 }
 
-// A simple name that can be kept, written at `at`: 7, 9.
-fn simple(written: &[u8], at: usize) -> Check
-    ensures { λ r. ⌜ r ≡ must (isSimple (now (written .entry))) (fault NotAName at) then kept (now (written .entry)) at ⌝ }
+// The same of the rule of names.
+fn not_a_name(text: &[u8], at: usize) -> Fault
+    ensures { λ r. ⌜ r ≡ notAName isName (now (text .entry)) at ⌝ }
+{
+    Fault {
+        why: Why::NotAName,
+        at: name_breach(text, at),
+    }
+}
+
+// The same of the rule of namespaces.
+fn not_a_namespace(text: &[u8], at: usize) -> Fault
+    ensures { λ r. ⌜ r ≡ notAName isNamespace (now (text .entry)) at ⌝ }
+{
+    Fault {
+        why: Why::NotAName,
+        at: namespace_breach(text, at),
+    }
+}
+
+// A simple name that can be kept, the string at `at`: 7, 9.
+fn simple(text: &[u8], written: &[u8], at: usize) -> Check
+    ensures { λ r. ⌜ r ≡ must (isSimple (now (written .entry))) (notAName isSimple (now (text .entry)) at) then kept (now (written .entry)) at ⌝ }
 {
     if !is_simple(written) {
-        return Check::Bad(Fault {
-            why: Why::NotAName,
-            at,
-        });
+        return Check::Bad(not_simple(text, at));
     }
     must(written.len() <= Full::LONGEST, Why::StringTooLong, at)
 }
@@ -66,11 +85,11 @@ pub fn simple_check(text: &[u8], ends: &[u16], at: usize, word: &mut [u8; 32768]
     if 0 < e {
         let start = at + 1;
         let stop = e - 1;
-        return simple(&text[start..stop], at);
+        return simple(text, &text[start..stop], at);
     }
     let n = string_copy(text, ends, at, word);
     let all = &word[..];
-    simple(&all[0..n], at)
+    simple(text, &all[0..n], at)
 }
 
 // The full name of what is written at `at`, in a namespace: 9.
@@ -160,7 +179,7 @@ fn in_namespace(
     let k = string_copy(text, ends, space, word);
     let namespace = &word[..];
     if !is_namespace(&namespace[0..k]) {
-        return Named::Wrong(not_a_name(text, space));
+        return Named::Wrong(not_a_namespace(text, space));
     }
     if reserved {
         return Named::Wrong(Fault {

@@ -67,7 +67,7 @@ pub record Own (t : List ℕ) (q : ℕ) : Type 0 where
 pub simple-own : (t : List ℕ) (q : ℕ) → simpleCheck t q ≡ Fine → Own t q
 unfolding simpleCheck isOwnName
 simple-own t q e =
-    let z = then-fine (must (isSimple (stringAt t q)) (notAName t q)) (kept (stringAt t q) q) e in
+    let z = then-fine (must (isSimple (stringAt t q)) (notAName isSimple t q)) (kept (stringAt t q) q) e in
     let a = must-true (isSimple (stringAt t q)) _ (z .0) in
     let b = must-true (isShort (stringAt t q)) _ (z .1) in
     record { keeps = and-intro (isShort (stringAt t q)) (isSimple (stringAt t q)) b a; within = string-within t q (simple-some (stringAt t q) a) }
@@ -87,7 +87,7 @@ pub reference-named : (t namespace : List ℕ) (q : ℕ) → isNamespace namespa
 unfolding referenceCheck fullAt
 reference-named t namespace q n e =
     let full = fullName namespace (stringAt t q) in
-    let z = then-fine (must (isName (stringAt t q)) (notAName t q)) (kept full q) e in
+    let z = then-fine (must (isName (stringAt t q)) (notAName isName t q)) (kept full q) e in
     let a = must-true (isName (stringAt t q)) _ (z .0) in
     record { dotted = full-dotted namespace (stringAt t q) n a; short = must-true (isShort full) _ (z .1); within = string-within t q (name-some (stringAt t q) a) }
 
@@ -100,7 +100,7 @@ pub alias-free : (t namespace : List ℕ) (q : ℕ) → isNamespace namespace �
 unfolding aliasCheck fullAt
 alias-free t namespace q n e =
     let full = fullName namespace (stringAt t q) in
-    let z = then-fine (must (isName (stringAt t q)) (notAName t q)) (unreserved full q then kept full q) e in
+    let z = then-fine (must (isName (stringAt t q)) (notAName isName t q)) (unreserved full q then kept full q) e in
     let y = then-fine (unreserved full q) (kept full q) (z .1) in
     let a = must-true (isName (stringAt t q)) _ (z .0) in
     record {
@@ -121,7 +121,7 @@ module _ (t enclosing : List ℕ) (m : Members) (q : ℕ) (n : isNamespace enclo
       s : List ℕ
       s = stringAt t q
 
-      go : (x : Bool) → hasDot s ≡ x → (w : Spot) → cond x Fine (onSpot w (λ w. must (isNamespace (stringAt t w)) (notAName t w)) Fine) ≡ Fine
+      go : (x : Bool) → hasDot s ≡ x → (w : Spot) → cond x Fine (onSpot w (λ w. must (isNamespace (stringAt t w)) (notAName isNamespace t w)) Fine) ≡ Fine
           → isDotted (fullName (onSpot w (stringAt t) enclosing) s) ≡ true
       go true h w f = rw (full-any (onSpot w (stringAt t) enclosing) [] s h) (full-dotted [] s refl a)
       go false h (At w) f = full-dotted (stringAt t w) s (must-true (isNamespace (stringAt t w)) _ f) a
@@ -131,7 +131,7 @@ module _ (t enclosing : List ℕ) (m : Members) (q : ℕ) (n : isNamespace enclo
   unfolding definitionCheck
   definition-free e =
       let full = definedAt t enclosing m q in
-      let z = then-fine (must (isName (stringAt t q)) (notAName t q)) (namespaceCheck t m q then unreserved full q then kept full q) e in
+      let z = then-fine (must (isName (stringAt t q)) (notAName isName t q)) (namespaceCheck t m q then unreserved full q then kept full q) e in
       let y = then-fine (namespaceCheck t m q) (unreserved full q then kept full q) (z .1) in
       let x = then-fine (unreserved full q) (kept full q) (y .1) in
       let a = must-true (isName (stringAt t q)) _ (z .0) in

@@ -62,9 +62,9 @@ string-within t q e = go (eqb (byteAt t q) 34) refl e
     go true f g = in-text t q (byteAt t q) 34 refl (eqb-true (byteAt t q) 34 f) (omega arith)
     go false f g = never (sym g)
 
-named-within : (t : List ℕ) (q : ℕ) (c : Check) → (must (isName (stringAt t q)) (notAName t q) then c) ≡ Fine → q < length t
+named-within : (t : List ℕ) (q : ℕ) (c : Check) → (must (isName (stringAt t q)) (notAName isName t q) then c) ≡ Fine → q < length t
 named-within t q c e =
-    string-within t q (name-some (stringAt t q) (must-fine (isName (stringAt t q)) (notAName t q) (then-fine (must (isName (stringAt t q)) (notAName t q)) c e .0)))
+    string-within t q (name-some (stringAt t q) (must-fine (isName (stringAt t q)) (notAName isName t q) (then-fine (must (isName (stringAt t q)) (notAName isName t q)) c e .0)))
 
 kept-short : (s : List ℕ) (q : ℕ) → kept s q ≡ Fine → length s ≤ 255
 unfolding isShort
@@ -86,13 +86,13 @@ module _ (t : List ℕ) (q : ℕ) where
   unfolding simpleCheck
   simple-within e =
       string-within t q (simple-some (stringAt t q)
-      (must-fine (isSimple (stringAt t q)) (notAName t q) (then-fine (must (isSimple (stringAt t q)) (notAName t q)) (kept (stringAt t q) q) e .0)))
+      (must-fine (isSimple (stringAt t q)) (notAName isSimple t q) (then-fine (must (isSimple (stringAt t q)) (notAName isSimple t q)) (kept (stringAt t q) q) e .0)))
 
   pub reference-passed : (namespace : List ℕ) → referenceCheck t namespace q ≡ Fine → Passed t (fullAt t namespace q) q
   unfolding referenceCheck
   reference-passed namespace e =
       let k = kept (fullAt t namespace q) q in
-      record { within = named-within t q k e; short = kept-short (fullAt t namespace q) q (last-fine (must (isName (stringAt t q)) (notAName t q)) k e) }
+      record { within = named-within t q k e; short = kept-short (fullAt t namespace q) q (last-fine (must (isName (stringAt t q)) (notAName isName t q)) k e) }
 
   pub alias-passed : (namespace : List ℕ) → aliasCheck t namespace q ≡ Fine → Passed t (fullAt t namespace q) q
   unfolding aliasCheck
@@ -101,7 +101,7 @@ module _ (t : List ℕ) (q : ℕ) where
       let k = unreserved full q then kept full q in
       record {
         within = named-within t q k e;
-        short = kept-short full q (last-fine (unreserved full q) (kept full q) (last-fine (must (isName (stringAt t q)) (notAName t q)) k e));
+        short = kept-short full q (last-fine (unreserved full q) (kept full q) (last-fine (must (isName (stringAt t q)) (notAName isName t q)) k e));
       }
 
   pub definition-passed : (enclosing : List ℕ) (m : Members) → definitionCheck t enclosing m q ≡ Fine → Passed t (definedAt t enclosing m q) q
@@ -113,7 +113,7 @@ module _ (t : List ℕ) (q : ℕ) where
       record {
         within = named-within t q l e;
         short = kept-short full q (last-fine (unreserved full q) (kept full q)
-            (last-fine (namespaceCheck t m q) k (last-fine (must (isName (stringAt t q)) (notAName t q)) l e)));
+            (last-fine (namespaceCheck t m q) k (last-fine (must (isName (stringAt t q)) (notAName isName t q)) l e)));
       }
 
 -- its full name lies in a buffer

@@ -50,12 +50,12 @@ part-is-namespace-end c =
 is-namespace-requires : tie.Need-is-namespace-requires
 is-namespace-requires c κs = search needs
 
-not-a-name-requires : tie.Need-not-a-name-requires
-not-a-name-requires c κs = search needs
+not-a-namespace-requires : tie.Need-not-a-namespace-requires
+not-a-namespace-requires c κs = search needs
 
 returns : tie.Need-returns
 returns c =
-    spaced-not (c .before .before .before .before .before .before .before .before .before .before .before .before .before .before .before .before .before .before .args .text .now) (c .before .before .before .before .before .before .before .before .before .before .before .before .before .before .before .before .before .before .args .space) (c .before .before .before .before .before .before .before .before .before .before .before .before .before .before .before .before .before .before .args .n) (c .before .before .before .before .before .before .before .before .before .before .before .before .before .before .before .before .before .before .args .at) (c .before .before .before .before .before .before .before .before .before .before .before .before .before .before .before .before .before .before .args .word .now) (c .before .before .before .before .before .before .before .before .before .before .before .before .before .before .before .before .before .before .args .full .now) ((copied (c .before .before .before .before .before .before .before .before .before .before .before .before .before .before .before .before .before .before .args .text .now) (c .before .before .before .before .before .before .before .before .before .before .before .before .before .before .before .before .before .before .args .space) (c .before .before .before .before .before .before .before .before .before .before .before .before .before .before .before .before .before .before .args .word .now) (c .before .before .before .before .before .before .string-copy .ensures) (c .before .before .before .before .before .before .before .before .before .before .before .before .before .before .before .before .before .before .pre .0) (omega arith)) .front) (c .before .before .is-namespace .ensures) (not-true _ (c .before .if1 .taken)) (c .not-a-name .ensures)
+    spaced-not (c .before .before .before .before .before .before .before .before .before .before .before .before .before .before .before .before .before .before .args .text .now) (c .before .before .before .before .before .before .before .before .before .before .before .before .before .before .before .before .before .before .args .space) (c .before .before .before .before .before .before .before .before .before .before .before .before .before .before .before .before .before .before .args .n) (c .before .before .before .before .before .before .before .before .before .before .before .before .before .before .before .before .before .before .args .at) (c .before .before .before .before .before .before .before .before .before .before .before .before .before .before .before .before .before .before .args .word .now) (c .before .before .before .before .before .before .before .before .before .before .before .before .before .before .before .before .before .before .args .full .now) ((copied (c .before .before .before .before .before .before .before .before .before .before .before .before .before .before .before .before .before .before .args .text .now) (c .before .before .before .before .before .before .before .before .before .before .before .before .before .before .before .before .before .before .args .space) (c .before .before .before .before .before .before .before .before .before .before .before .before .before .before .before .before .before .before .args .word .now) (c .before .before .before .before .before .before .string-copy .ensures) (c .before .before .before .before .before .before .before .before .before .before .before .before .before .before .before .before .before .before .pre .0) (omega arith)) .front) (c .before .before .is-namespace .ensures) (not-true _ (c .before .if1 .taken)) (c .not-a-namespace .ensures)
 
 returns-2 : tie.Need-returns-2
 returns-2 c =
@@ -109,7 +109,7 @@ in-namespace-spec =
     part-is-namespace-start
     part-is-namespace-end
     is-namespace-requires
-    not-a-name-requires
+    not-a-namespace-requires
     returns
     returns-2
     returns-3
