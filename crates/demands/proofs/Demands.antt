@@ -6,7 +6,7 @@ use mathlib.Core.List.{List, [], _∷_, _++_}
 use Prim.Native.Nat.{ℕ, _<_, _≤_}
 use lib.ListN.{length, take}
 use Rattle.answer.specs.declared.counts.Counts.{Counts}
-use Rattle.answer.specs.declared.refusal.Why.the-variants.{NoSuchPlace}
+use Rattle.answer.specs.declared.refusal.Why.the-variants.{NotAName, NoSuchPlace}
 use Rattle.answer.specs.declared.refusal.Refusal.{Refusal}
 use Rattle.answer.specs.declared.Answer.the-variants.{Done, Refused}
 use Rattle.row.specs.Layout.{layoutLength}
@@ -20,10 +20,16 @@ use Rattle.set.specs.Calls.{answerOf, memoryOf, opened, added, replaced}
 use Rattle.set.specs.Naming.{hasFullName, fullNameIn, refusedName, namingOf}
 use Rattle.set.specs.declared.naming.Naming.{Naming}
 use Rattle.set.specs.declared.naming.Naming.the-variants as naming
+use Rattle.ground.specs.Bytes.{byteAt}
+use Rattle.breach.specs.Breach.{BreaksAt}
+use Rattle.breach.proofs.Theorems.{breaks-there}
+use Rattle.told.specs.Told.{Rule, keepsOf, Told}
+use Rattle.told.proofs.Told.{lettered}
 use Rattle.demands.specs.Building.{Outcome, outcome, Allowed, emptySet, addEach, edit, Built, Joins, At, SameFront, Nameless, LaterBarred}
 use Rattle.demands.proofs.Holding.{refused-refuses, refused-leaves, added-kept, replaced-kept, replaced-formed, opened-formed, opened-empty, opened-length, held-formed, built-holds, held-answer, held-memory, held-nowhere, held-is, accepted-built}
 use Rattle.demands.proofs.Joined.{accepts-only, accepts-if}
 use Rattle.demands.proofs.Staying.{added-front, replaced-front, replace-later}
+use Rattle.demands.proofs.Letter.{put-tells, addition-tells}
 use Rattle.demands.proofs.Named.{full-formed, name-of, nameless-if, nameless-only, nameless-said, calls-agree}
 
 -- ---- DEMAND 1: each public result is described fully, refusal or not, together with the lent bytes afterwards
@@ -128,6 +134,19 @@ module _ (m : List ℕ) (wf : wellFormed m ≡ true) (c : Counts) where
 
 pub later-position : (m : List ℕ) → wellFormed m ≡ true → (place : ℕ) (text : List ℕ) (r : Refusal) → answerOf (replaced m place text) ≡ Refused r → place < r .place → LaterBarred (decode m) place text r
 later-position m wf place text r e l = replace-later (decode m) place text r l (sym (replaced-formed m wf place text) ∙ refused-refuses (replaced m place text) r e)
+
+-- ---- THE LETTER: 7 is a fault of the text that is handed in, and it stands where a string of that text breaks its rule for names: at the first
+-- character such that no string that keeps the rule begins with the characters up to and with it, or at the closing quote (`Told`, `BreaksAt`)
+
+pub add-tells : (m text : List ℕ) (r : Refusal) → answerOf (added m text) ≡ Refused r → r .why ≡ NotAName → (r .place ≡ length (decode m)) × Told text (r .at)
+add-tells = addition-tells
+
+pub replace-tells : (m : List ℕ) (place : ℕ) (text : List ℕ) (r : Refusal) → answerOf (replaced m place text) ≡ Refused r → r .why ≡ NotAName → (r .place ≡ place) × Told text (r .at)
+replace-tells m place text = put-tells text place m
+
+-- there is one such place for a string
+pub told-once : (t : List ℕ) (r : Rule) (quote p q : ℕ) → byteAt t quote ≡ 34 → BreaksAt (keepsOf r) t quote p → BreaksAt (keepsOf r) t quote q → p ≡ q
+told-once t r quote p q o a b = one (breaks-there (lettered r) t quote o p a) (breaks-there (lettered r) t quote o q b)
 
 -- ---- NAMES: the full name of a row, by place and row number there from 0
 

@@ -7,3 +7,4 @@ mod Joining
 mod Joined
 mod Staying
 mod Named
+mod Letter

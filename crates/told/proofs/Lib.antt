@@ -1,0 +1,4 @@
+mod Fair
+mod Strings
+mod Rows
+pub mod Told

@@ -1,0 +1,27 @@
+-- What a 7 tells of a text: which string breaks its rule, and where.
+-- Assumes nothing.
+use Prim.Native.Nat.{ℕ}
+use mathlib.Core.Path.{_≡_}
+use mathlib.Core.Bool.{Bool, false}
+use mathlib.Core.List.{List}
+use Rattle.ground.specs.Bytes.{byteAt}
+use Rattle.name.specs.Name.{isSimple, isName, isNamespace}
+use Rattle.view.specs.Strings.{stringAt}
+use Rattle.breach.specs.Breach.{BreaksAt}
+
+-- the rules: of fields, their aliases and symbols; of definitions, their aliases and references; of namespaces
+pub data Rule : Type 0 where
+  simple name namespace : Rule
+
+abbrev pub keepsOf : Rule → List ℕ → Bool
+keepsOf simple = isSimple
+keepsOf name = isName
+keepsOf namespace = isNamespace
+
+-- a string of the text, its opening quote at `quote`, does not keep the rule, and p is where it breaks it
+pub record Told (t : List ℕ) (p : ℕ) : Type 0 where
+  pub rule : Rule
+  pub quote : ℕ
+  pub opens : byteAt t quote ≡ 34
+  pub fails : keepsOf rule (stringAt t quote) ≡ false
+  pub breaks : BreaksAt (keepsOf rule) t quote p
