@@ -3,6 +3,7 @@ use crate::excerpt::put_excerpt;
 use crate::sentences::put_sentence;
 use answer::Refusal;
 use answer::Why;
+use breach::code_at;
 use script::output::put;
 use script::output::put_decimal;
 
@@ -29,6 +30,15 @@ fn put_numbers(out: &mut [u8], at: usize, r: Refusal) -> usize {
     put(out, f, b"\n")
 }
 
+// The character that breaks the rule of names; 0 where there is none to tell.
+fn letter(text: &[u8], r: Refusal) -> u32 {
+    let why = r.why;
+    match why {
+        Why::NotAName => code_at(text, r.at),
+        _ => 0,
+    }
+}
+
 fn put_where(out: &mut [u8], at: usize, text: &[u8], r: Refusal) -> usize {
     let why = r.why;
     if !has_byte(why) {
@@ -37,7 +47,8 @@ fn put_where(out: &mut [u8], at: usize, text: &[u8], r: Refusal) -> usize {
     if text.len() == 0 {
         return put(out, at, b"  The text is empty.\n");
     }
-    put_excerpt(out, at, text, r.at)
+    let code = letter(text, r);
+    put_excerpt(out, at, text, r.at, code)
 }
 
 pub(crate) fn put_refusal(out: &mut [u8], at: usize, text: &[u8], r: Refusal) -> usize {

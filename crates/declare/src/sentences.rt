@@ -12,7 +12,7 @@ pub(crate) fn put_sentence(out: &mut [u8], at: usize, why: Why) -> usize {
         A schema is a string, an object or an array.\n\
         This object has no `type`.\n\
         This object has no `name` that is a string.\n\
-        This is not a name, a namespace or a symbol.\n\
+        No name, namespace or symbol goes on like this.\n\
         This name is reserved.\n\
         The string to keep is longer than 255 bytes.\n\
         This record has no `fields` that are an array.\n\
