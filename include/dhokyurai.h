@@ -22,7 +22,8 @@ size_t dhokyurai_memory_length(void);
 
 /* Makes memory of that length the empty set, whatever it held.
  * Here and in add and replace, where accepted: *a, *b, *c are how many declarations, rows and string bytes the set has.
- * Where refused: *a is the declaration's place in the set, *b the byte position in its text, *c is 0. */
+ * Where refused: *a is the declaration's place in the set, *b the byte position in its text, *c is 0. Of a string that is no name
+ * (7) *b is the first character or escape after which no name can follow, or the closing quote where it ends too soon. */
 uint8_t dhokyurai_open(uint8_t *memory, size_t memory_length, size_t *a, size_t *b, size_t *c);
 
 /* Adds the declaration that the text holds, at the set's end. */
