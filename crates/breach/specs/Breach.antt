@@ -19,7 +19,9 @@ pub data Characters (t : List ℕ) (p : ℕ) : ℕ → List ℕ → Type 0 where
   more : {q : ℕ} {s : List ℕ} → Characters t p q s → isStop (byteAt t q) ≡ false
       → Characters t p (characterAt t q .next) (s ++ characterAt t q .bytes)
 
--- the string whose opening quote is at q breaks the rule at p
+-- The string whose opening quote is at q breaks the rule at p: there stands the first character such that no string that keeps the rule
+-- begins with the characters up to and with it, or, if there is none, the closing quote. What begins with more begins with less, so the
+-- first is the one before which a string can be begun.
 pub record BreaksAt (keeps : List ℕ → Bool) (t : List ℕ) (q p : ℕ) : Type 0 where
   -- some string that keeps the rule begins with the characters before p,
   pub before : List ℕ
@@ -32,7 +34,8 @@ pub record BreaksAt (keeps : List ℕ → Bool) (t : List ℕ) (q p : ℕ) : Typ
 
 -- ---- the same as a function: there is one such place, and this is it (`breaks`, `breaks-there`)
 
--- on from p, behind the characters `before`; there are no more of them than the text has bytes
+-- on from p, behind the characters `before`: past every character that a string that keeps the rule can go on with. There are no more
+-- characters than the text has bytes
 unfoldable pub breachFrom : (List ℕ → Bool) → List ℕ → ℕ → List ℕ → ℕ → ℕ
 breachFrom keeps t zero before p = p
 breachFrom keeps t (suc n) before p =

@@ -24,6 +24,7 @@ fn size_of(b: u8) -> usize
     4
 }
 
+// The character at `at`, by its own bytes or by an escape.
 pub(crate) fn character_at(text: &[u8], at: usize) -> Piece
     requires { ⌜ at < length (now text) ⌝ }
     ensures { λ r. ⌜ Spells r (characterAt (now (text .entry)) at) ⌝ }
