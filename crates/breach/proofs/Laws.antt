@@ -2,8 +2,8 @@
 -- Assumes nothing.
 use mathlib.Core.Path.{_≡_, refl, sym, ap, _∙_}
 use mathlib.Core.Bool.{Bool, true, false, not, cond, _&&_, and-false}
-use mathlib.Core.List.{List, [], _∷_, _++_}
-use Prim.Native.Nat.{ℕ, zero, suc, _+_, _<_, _≤_}
+use mathlib.Core.List.{List, [], _++_, append-assoc, append-nil}
+use Prim.Native.Nat.{ℕ, zero, suc, _+_, _≤_}
 use native.Mathlib.Omega.{arith}
 use lib.ListN.{length}
 use Rattle.ground.specs.Bytes.{byteAt}
@@ -13,14 +13,6 @@ use Rattle.view.proofs.Laws.{past-stop}
 use Rattle.breach.specs.Characters.{characterAt}
 use Rattle.breach.specs.Breach.{breachFrom}
 use Rattle.breach.proofs.Letters.{character-ahead}
-
-pub append-none : (s : List ℕ) → s ++ [] ≡ s
-append-none [] = refl
-append-none (b ∷ s) = ap (λ (l : List ℕ). b ∷ l) (append-none s)
-
-pub append-three : (a b c : List ℕ) → (a ++ b) ++ c ≡ a ++ (b ++ c)
-append-three [] b c = refl
-append-three (x ∷ a) b c = ap (λ (l : List ℕ). x ∷ l) (append-three a b c)
 
 -- ---- the fuel is no limit
 module _ (keeps : List ℕ → Bool) (t : List ℕ) where
@@ -62,7 +54,7 @@ module _ (f g : List ℕ → Bool) (t : List ℕ) where
   alike (suc n) x y p h =
       let c = characterAt t p .bytes in
       let on : (s : List ℕ) → canBegin f ((x ++ c) ++ s) ≡ canBegin g ((y ++ c) ++ s) =
-      λ s. ap (λ (l : List ℕ). canBegin f l) (append-three x c s) ∙ h (c ++ s) ∙ ap (λ (l : List ℕ). canBegin g l) (sym (append-three y c s)) in
+      λ s. ap (λ (l : List ℕ). canBegin f l) (append-assoc x c s) ∙ h (c ++ s) ∙ ap (λ (l : List ℕ). canBegin g l) (sym (append-assoc y c s)) in
       ap (λ (b : Bool). cond (not (isStop (byteAt t p)) && b) (breachFrom f t n (x ++ c) (characterAt t p .next)) p) (h c)
       ∙ ap (λ (k : ℕ). cond (not (isStop (byteAt t p)) && canBegin g (y ++ c)) k p) (alike n (x ++ c) (y ++ c) (characterAt t p .next) on)
 
@@ -72,6 +64,6 @@ module _ (f g : List ℕ → Bool) (t : List ℕ) where
   unfolding breachFrom
   alike-behind n p h =
       let c = characterAt t p .bytes in
-      let now : canBegin f c ≡ canBegin g c = ap (λ (l : List ℕ). canBegin f l) (sym (append-none c)) ∙ h [] ∙ ap (λ (l : List ℕ). canBegin g l) (append-none c) in
+      let now : canBegin f c ≡ canBegin g c = ap (λ (l : List ℕ). canBegin f l) (sym (append-nil c)) ∙ h [] ∙ ap (λ (l : List ℕ). canBegin g l) (append-nil c) in
       ap (λ (b : Bool). cond (not (isStop (byteAt t p)) && b) (breachFrom f t n c (characterAt t p .next)) p) now
       ∙ ap (λ (k : ℕ). cond (not (isStop (byteAt t p)) && canBegin g c) k p) (alike n c c (characterAt t p .next) h)

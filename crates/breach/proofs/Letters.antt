@@ -5,16 +5,15 @@ use mathlib.Core.Bool.{Bool, true, false, cond}
 use mathlib.Core.List.{List, [], _∷_}
 use Prim.Native.Nat.{ℕ, zero, suc, _+_, _*_, _/_, _%_, _<_, _≤_}
 use native.Mathlib.Omega.{arith}
-use native.Mathlib.Numerals.{add-one}
 use native.Mathlib.Decide.{decLt}
 use lib.Dec.{eqb, ltb}
 use lib.ListN.{length, take, getD}
-use borrow.Author.Tests.{eq-eqb, ne-eqb, eqb-true, eqb-false, ltb-true, ltb-false, lt-ltb, le-ltb}
+use borrow.Author.Tests.{eq-eqb, ne-eqb, eqb-true, eqb-false, ltb-true, lt-ltb, le-ltb}
 use Rattle.ground.specs.Bytes.{byteAt}
 use Rattle.ground.proofs.Laws.{byte-past}
 use Rattle.view.specs.declared.strings.Piece.{Piece}
 use Rattle.view.specs.Strings.{Part, partOf, partAt, utf8Of, Spells}
-use Rattle.view.proofs.Laws.{Holds, part-holds, low-alone}
+use Rattle.view.proofs.Laws.{part-holds, low-alone}
 use Rattle.breach.specs.Characters.{sizeOf, fourFrom, characterAt, codeOf, codeAt}
 
 -- ---- sizes

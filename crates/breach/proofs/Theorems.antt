@@ -1,9 +1,9 @@
 -- The function is the rule: where a string does not keep a rule of names it breaks it at one place, and that is `breachAt`.
 -- Assumes nothing.
-use mathlib.Core.Path.{_≡_, refl, sym, ap, _∙_, subst}
-use mathlib.Core.Bool.{Bool, true, false, cond}
-use mathlib.Core.List.{List, [], _∷_, _++_}
-use Prim.Native.Nat.{ℕ, zero, suc, _+_, _<_, _≤_}
+use mathlib.Core.Path.{_≡_, refl, sym, ap, _∙_}
+use mathlib.Core.Bool.{Bool, true, false}
+use mathlib.Core.List.{List, [], _∷_, _++_, append-assoc, append-nil}
+use Prim.Native.Nat.{ℕ, zero, suc, _+_, _≤_}
 use native.Mathlib.Omega.{arith}
 use lib.Dec.{eqb}
 use lib.ListN.{length}
@@ -18,11 +18,11 @@ use Rattle.view.proofs.Laws.{past-stop, bytes-stop, bytes-next}
 use Rattle.breach.specs.Characters.{sizeOf, characterAt}
 use Rattle.breach.specs.Breach.{Characters, none, more, BreaksAt, breachFrom, breachAt}
 use Rattle.breach.proofs.Letters.{character-small, character-high, character-ahead, size-high}
-use Rattle.breach.proofs.Laws.{append-none, append-three, breach-end, breach-here, breach-on}
+use Rattle.breach.proofs.Laws.{breach-end, breach-here, breach-on}
 
 -- what begins with more begins with less
 shorter : {keeps : List ℕ → Bool} (a b : List ℕ) → Begins keeps (a ++ b) → Begins keeps a
-shorter {keeps} a b h = record { rest = b ++ h .rest; whole = sym (ap keeps (append-three a b (h .rest))) ∙ h .whole }
+shorter {keeps} a b h = record { rest = b ++ h .rest; whole = sym (ap keeps (append-assoc a b (h .rest))) ∙ h .whole }
 
 -- a letter shows that a string can be begun
 begun-by : (keeps : List ℕ → Bool) (s : List ℕ) → canBegin keeps s ≡ true → Begins keeps s
@@ -44,7 +44,7 @@ module _ {keeps : List ℕ → Bool} (l : Lettered keeps) (t : List ℕ) (q : �
           let n = eqb-false (sizeOf (byteAt t p)) 1 f in
           let r = character-high t p n in
           let h = size-high (byteAt t p) n in
-          let w = append-three before (byteAt t p ∷ r .0) (ascii "a") in
+          let w = append-assoc before (byteAt t p ∷ r .0) (ascii "a") in
           let k = l .low before (r .0 ++ ascii "a") (byteAt t p)
           (sym (ap keeps w) ∙ sym (ap (λ (x : List ℕ). keeps ((before ++ x) ++ ascii "a")) (r .1)) ∙ e) in
           absurd (omega arith)
@@ -62,7 +62,7 @@ module _ {keeps : List ℕ → Bool} (l : Lettered keeps) (t : List ℕ) (q : �
       characters = w .characters;
       begun = begun-by keeps before (w .begun);
       broken = λ f b. never (sym f ∙ e);
-      ended = λ f. ap keeps (sym (w .string ∙ ap (λ (x : List ℕ). before ++ x) (bytes-stop t p e) ∙ append-none before)) ∙ bad;
+      ended = λ f. ap keeps (sym (w .string ∙ ap (λ (x : List ℕ). before ++ x) (bytes-stop t p e) ∙ append-nil before)) ∙ bad;
     }
 
     at-character : (before : List ℕ) (p : ℕ) → Way before p → isStop (byteAt t p) ≡ false → canBegin keeps (before ++ characterAt t p .bytes) ≡ false → BreaksAt keeps t q p
@@ -83,7 +83,7 @@ module _ {keeps : List ℕ → Bool} (l : Lettered keeps) (t : List ℕ) (q : �
           w .string
           ∙ ap (λ (x : List ℕ). before ++ x)
           (bytes-next t p e ∙ ap (λ (x : Part). x .bytes ++ bytesFrom t (x .next)) (sym (one-part before p f)))
-          ∙ sym (append-three before (characterAt t p .bytes) (bytesFrom t (characterAt t p .next)));
+          ∙ sym (append-assoc before (characterAt t p .bytes) (bytesFrom t (characterAt t p .next)));
     }
 
     arrive : (n : ℕ) (before : List ℕ) (p : ℕ) → Way before p → length t ≤ n + p → BreaksAt keeps t q (breachFrom keeps t n before p)

@@ -1,27 +1,27 @@
 -- Ways out of the functions, and turns of the loop. b is the first byte of the character at p.
 -- Assumes nothing.
-use mathlib.Core.Path.{_≡_, refl, sym, ap, _∙_}
+use mathlib.Core.Path.{_≡_, sym, ap, _∙_}
 use mathlib.Core.Bool.{Bool, true, false, cond}
 use mathlib.Core.List.{List, [], _∷_, _++_}
-use Prim.Native.Nat.{ℕ, zero, suc, _+_, _<_, _≤_}
+use Prim.Native.Nat.{ℕ, suc, _+_, _<_}
 use native.Mathlib.Omega.{arith}
 use lib.Dec.{eqb}
 use lib.ListN.{length, getD, drop}
 use borrow.Author.Tests.{eq-eqb, ne-eqb}
 use Rattle.ground.specs.Ascii.{ascii}
 use Rattle.ground.specs.Bytes.{byteAt}
-use Rattle.name.specs.Name.{isSimple, dot, isDotted, isName, isNamespace}
+use Rattle.name.specs.Name.{isSimple, isDotted, isName, isNamespace}
 use Rattle.name.specs.Rule.{mayStand}
 use Rattle.name.specs.Begin.{canBegin}
 use Rattle.name.proofs.Bytewise.{keeps, keeps-either, keeps-on, keeps-off}
-use Rattle.name.proofs.Begin.{keeps-one, stands-low, name-dot, name-joined, namespace-joined, Lettered, simple-lettered}
+use Rattle.name.proofs.Begin.{keeps-one, stands-low, name-dot, name-joined, namespace-joined, simple-lettered}
 use Rattle.view.specs.declared.strings.Piece.{Piece}
 use Rattle.view.specs.Strings.{Part, isStop, Spells}
 use Rattle.view.proofs.Laws.{spells-first}
 use Rattle.breach.specs.Characters.{characterAt}
 use Rattle.breach.specs.Breach.{breachFrom, breachAt}
 use Rattle.breach.proofs.Letters.{character-ahead, character-alone}
-use Rattle.breach.proofs.Laws.{breach-end, breach-here, breach-on, alike, alike-behind}
+use Rattle.breach.proofs.Laws.{breach-here, breach-on, alike, alike-behind}
 
 -- behind all of a text's characters
 abbrev pub breach : (List ℕ → Bool) → List ℕ → ℕ → ℕ

@@ -9,10 +9,8 @@ use lib.ListN.{length, take, drop}
 use Rattle.answer.specs.declared.Answer.the-variants.{Refused}
 use Rattle.answer.specs.declared.refusal.Why.{Why}
 use Rattle.answer.specs.declared.refusal.Why.the-variants.{NotAName, NotWellFormed, NoSuchPlace, TooManyDeclarations, TooManyRows, TooManyStringBytes, DefinedAlready, ReferenceUnknown}
-use Rattle.answer.specs.declared.refusal.Fault.{Fault}
 use Rattle.answer.specs.declared.refusal.Refusal.{Refusal}
 use Rattle.answer.specs.Numbers.{numberOf}
-use Rattle.answer.specs.Places.{placed}
 use Rattle.ground.proofs.Laws.{never}
 use Rattle.row.specs.Layout.{declarationLimit, rowLimit, stringLimit}
 use Rattle.row.specs.Rows.{Row, texts}

@@ -1,19 +1,18 @@
 -- What a string that keeps a rule can begin with. Assumes nothing.
-use mathlib.Core.Path.{_≡_, refl, sym, ap, _∙_}
-use mathlib.Core.Bool.{Bool, true, false, not, cond, _&&_, and-true, and-false}
+use mathlib.Core.Path.{_≡_, refl, sym, _∙_}
+use mathlib.Core.Bool.{Bool, true, false, cond, and-true, and-false}
 use mathlib.Core.List.{List, [], _∷_, _++_}
 use Prim.Native.Nat.{ℕ, _<_, _≤_}
 use native.Mathlib.Omega.{arith}
 use native.Mathlib.Decide.{decLt}
 use lib.Dec.{eqb, leb}
-use lib.ListN.{drop}
 use borrow.Author.Tests.{eqb-true, ne-eqb, lt-leb}
 use Rattle.ground.specs.Ascii.{ascii}
 use Rattle.name.specs.Name.{every, isEmpty, isWithin, isLetter, isDigit, isFirst, isLater, isSimple, dot, isDotted, startsWithDot, isName, isNamespace}
 use Rattle.name.specs.Rule.{mayStand}
 use Rattle.name.specs.Begin.{Begins, canBegin}
 use Rattle.name.proofs.Parts.{never}
-use Rattle.name.proofs.Laws.{name-lead, name-else, namespace-dotted}
+use Rattle.name.proofs.Laws.{name-lead, name-else}
 use Rattle.name.proofs.Bytewise.{keeps, keeps-simple, keeps-dotted, keeps-on, keeps-front, keeps-off}
 
 -- ---- one byte

@@ -4,7 +4,6 @@ use mathlib.Core.Path.{_≡_, refl, sym, ap, _∙_}
 use mathlib.Core.Bool.{Bool, true, false, cond}
 use mathlib.Core.List.{List, [], _∷_}
 use Prim.Native.Nat.{ℕ}
-use native.Mathlib.Omega.{arith}
 use lib.Dec.{eqb}
 use Rattle.answer.specs.declared.refusal.Why.{Why}
 use Rattle.answer.specs.declared.refusal.Why.the-variants.{NotAName}
@@ -18,14 +17,13 @@ use Rattle.view.specs.declared.space.Spot.{Spot}
 use Rattle.view.specs.declared.space.Spot.the-variants.{At, Nowhere}
 use Rattle.view.specs.Strings.{stringAt}
 use Rattle.view.proofs.Laws.{All}
-use Rattle.breach.specs.Breach.{breachAt}
 use Rattle.breach.proofs.Theorems.{breaks}
 use Rattle.form.specs.declared.check.Check.{Check}
 use Rattle.form.specs.declared.check.Check.the-variants.{Fine, Bad}
-use Rattle.form.specs.Checks.{fault, must, _then_, eachOf}
+use Rattle.form.specs.Checks.{fault, must, _then_}
 use Rattle.form.specs.Spots.{onSpot}
 use Rattle.form.specs.Names.{notAName}
-use Rattle.schema.specs.Out.{Out, refused, read, rowsThen, andThen, after, no, each}
+use Rattle.schema.specs.Out.{Out, refused, read, rowsThen, andThen, after, each}
 use Rattle.told.specs.Told.{Rule, simple, name, namespace, keepsOf, Told}
 
 pub lettered : (r : Rule) → Lettered (keepsOf r)

@@ -10,9 +10,8 @@ use Rattle.ground.specs.Ascii.{ascii}
 use Rattle.ground.specs.Bytes.{same}
 use Rattle.name.specs.Name.{namespacePart}
 use Rattle.row.specs.Kinds.{kindNumber}
-use Rattle.row.specs.Rows.{Row}
 use Rattle.row.specs.declared.kind.Kind.{Kind}
-use Rattle.row.specs.declared.kind.Kind.the-variants.{Bytes, Reference, Array, Map, Union, Record, Enum, Fixed, Field, Symbol, Alias, FieldAlias}
+use Rattle.row.specs.declared.kind.Kind.the-variants.{Reference, Array, Map, Union, Record, Enum, Fixed, Field}
 use Rattle.view.specs.declared.space.Spot.{Spot}
 use Rattle.view.specs.declared.space.Spot.the-variants.{At, Nowhere}
 use Rattle.view.specs.declared.shape.Shape.{Shape}
@@ -37,7 +36,7 @@ use Rattle.form.specs.Notes.{onSize, noted, noteOf}
 use Rattle.rules.specs.Unions.{called, unnamed, unionCheck}
 use Rattle.rules.specs.Fields.{fieldNamesCheck}
 use Rattle.rules.specs.Symbols.{symbolsCheck, defaultCheck}
-use Rattle.schema.specs.Out.{Out, refused, read, rowsThen, andThen, after, no, each}
+use Rattle.schema.specs.Out.{Out, read, rowsThen, andThen, after, no, each}
 use Rattle.schema.specs.Schema.{rowWith, row, Around, within, newName, newKind, referenceRows, primitiveRows, wordRows, aliasRows, definitionRows, definition, fieldAliasRows, fieldRows, fieldsRows, recordRows, symbolRows, enumRows, fixedRows, partRows, asMember, unionRows, schemaBy, schemaOf}
 use Rattle.told.proofs.Fair.{Fair, other, FairOut, then-fair, after-fair, rows-fair, and-fair, each-fair, spot-fair, cond-fair}
 use Rattle.told.proofs.Strings.{Quoted, text-quoted, as-text, aliases-quoted, simple-fair, reference-fair, alias-fair, definition-fair, symbols-fair, default-fair, fields-fair, union-fair}

@@ -1,6 +1,6 @@
 -- The strings of a declaration that have to be names, and the checks of them.
 -- Assumes nothing.
-use mathlib.Core.Path.{_≡_, refl, sym, ap, _∙_, subst}
+use mathlib.Core.Path.{_≡_, refl, subst}
 use mathlib.Core.Bool.{Bool, true, false, not, cond, _&&_, _||_, and-eq-true-iff}
 use mathlib.Core.List.{List, [], _∷_, _++_, map}
 use Prim.Native.Nat.{ℕ}
@@ -8,7 +8,6 @@ use native.Mathlib.Omega.{arith}
 use lib.Dec.{eqb}
 use borrow.Author.Tests.{eqb-true}
 use Rattle.answer.specs.declared.refusal.Why.the-variants.{Reserved, StringTooLong, FieldNameTaken, SymbolNotAString, SymbolTwice, DefaultNotAString, DefaultNotASymbol, UnionRuleBroken}
-use Rattle.answer.specs.Numbers.{numberOf}
 use Rattle.ground.specs.Bytes.{byteAt}
 use Rattle.ground.proofs.Laws.{never}
 use Rattle.json.specs.Json.{isDigit}
@@ -20,7 +19,6 @@ use Rattle.view.specs.declared.shape.Shape.the-variants.{Text, Number, Object, 
 use Rattle.view.specs.declared.members.Members.{Members}
 use Rattle.view.specs.Values.{shapeOf, shapeAt}
 use Rattle.view.specs.Elements.{elements}
-use Rattle.view.specs.Members.{membersOf}
 use Rattle.view.specs.Strings.{stringAt}
 use Rattle.view.proofs.Laws.{All}
 use Rattle.form.specs.declared.check.Check.{Check}
@@ -35,7 +33,7 @@ use Rattle.rules.specs.Unions.{Head, isUnion, isNew, before, unionCheck}
 use Rattle.rules.specs.Fields.{fieldName, fieldNameAt, takenBy, fieldNamesCheck}
 use Rattle.rules.specs.Symbols.{symbolsNew, symbolsCheck, defaultCheck}
 use Rattle.told.specs.Told.{simple, name, namespace}
-use Rattle.told.proofs.Fair.{Fair, other, FairCheck, must-other, rule-fair, then-fair}
+use Rattle.told.proofs.Fair.{other, FairCheck, must-other, rule-fair, then-fair}
 
 -- ---- where a string stands
 
@@ -140,27 +138,28 @@ module _ (t : List ℕ) where
       then-fair t (simpleCheck t q) (once then more) (simple-fair q (a .0))
       (λ _. then-fair t once more (must-other t (not (isOneOf taken (stringAt t q))) SymbolTwice q refl) (λ _. new-fair (taken ++ (stringAt t q ∷ [])) qs (a .1)))
 
-  texts-check : List ℕ → Check
-  texts-check qs = eachOf (λ q. must (isText (shapeAt t q)) (fault SymbolNotAString q)) qs
+  -- 13, for each of them
+  abbrev texts : List ℕ → Check
+  texts qs = eachOf (λ q. must (isText (shapeAt t q)) (fault SymbolNotAString q)) qs
 
-  texts-fair : (qs : List ℕ) → FairCheck t (eachOf (λ q. must (isText (shapeAt t q)) (fault SymbolNotAString q)) qs)
+  texts-fair : (qs : List ℕ) → FairCheck t (texts qs)
   unfolding eachOf
   texts-fair [] = tt
   texts-fair (q ∷ qs) =
-      then-fair t (must (isText (shapeAt t q)) (fault SymbolNotAString q)) (eachOf (λ q. must (isText (shapeAt t q)) (fault SymbolNotAString q)) qs)
+      then-fair t (must (isText (shapeAt t q)) (fault SymbolNotAString q)) (texts qs)
       (must-other t (isText (shapeAt t q)) SymbolNotAString q refl) (λ _. texts-fair qs)
 
-  texts-fine : (qs : List ℕ) → eachOf (λ q. must (isText (shapeAt t q)) (fault SymbolNotAString q)) qs ≡ Fine → All Quoted qs
+  texts-fine : (qs : List ℕ) → texts qs ≡ Fine → All Quoted qs
   unfolding eachOf
   texts-fine [] e = tt
   texts-fine (q ∷ qs) e =
-      let z = then-fine (must (isText (shapeAt t q)) (fault SymbolNotAString q)) (eachOf (λ q. must (isText (shapeAt t q)) (fault SymbolNotAString q)) qs) e in
+      let z = then-fine (must (isText (shapeAt t q)) (fault SymbolNotAString q)) (texts qs) e in
       (text-quoted q (must-fine (isText (shapeAt t q)) (fault SymbolNotAString q) (z .0)), texts-fine qs (z .1))
 
   pub symbols-fair : (qs : List ℕ) → FairCheck t (symbolsCheck t qs)
   unfolding symbolsCheck
   symbols-fair qs =
-      then-fair t (eachOf (λ q. must (isText (shapeAt t q)) (fault SymbolNotAString q)) qs) (symbolsNew t [] qs) (texts-fair qs) (λ e. new-fair [] qs (texts-fine qs e))
+      then-fair t (texts qs) (symbolsNew t [] qs) (texts-fair qs) (λ e. new-fair [] qs (texts-fine qs e))
 
   pub default-fair : (s : Spot) (qs : List ℕ) → FairCheck t (defaultCheck t s qs)
   unfolding defaultCheck

@@ -1,11 +1,10 @@
 -- THE LETTER: a text that is refused by 7 has a string that does not keep its rule for names, and the refusal stands where the string breaks it.
 -- Assumes nothing.
-use mathlib.Core.Path.{_≡_, refl, sym, ap, _∙_, subst}
+use mathlib.Core.Path.{_≡_, refl, sym, _∙_, subst}
 use mathlib.Core.Bool.{Bool, true, false, cond}
 use mathlib.Core.List.{List, [], _∷_}
-use mathlib.Core.Logic.{_⊎_, inl, inr, ⊎-elim}
+use mathlib.Core.Logic.{⊎-elim}
 use Prim.Native.Nat.{ℕ, suc}
-use native.Mathlib.Omega.{arith}
 use lib.Dec.{ltb}
 use lib.ListN.{length}
 use Rattle.answer.specs.declared.refusal.Why.{Why}
@@ -17,7 +16,7 @@ use Rattle.json.specs.declared.verdict.Scan.{Scan}
 use Rattle.json.specs.declared.verdict.Scan.the-variants.{Whole, Bad}
 use Rattle.json.proofs.Depth.{Begins, Sane, step-sane}
 use Rattle.form.specs.Checks.{fault}
-use Rattle.schema.specs.Out.{Out, refused, read}
+use Rattle.schema.specs.Out.{refused}
 use Rattle.schema.specs.Schema.{within, rowsOf, onScan, declared}
 use Rattle.view.specs.Values.{valueStart}
 use Rattle.told.specs.Told.{Told}

@@ -10,7 +10,6 @@ use borrow.Author.Tests.{not-true, not-false}
 use Rattle.name.specs.Name.{isSimple, isDotted}
 use Rattle.name.proofs.Bytewise.{keeps}
 use Rattle.view.proofs.Laws.{stop-in}
-use Rattle.breach.proofs.Letters.{character-ahead}
 use Rattle.breach.proofs.Laws.{breach-end}
 use Rattle.breach.proofs.Turns.{breach, bytewise, turn-broken, turn-on, turn-ahead}
 use Rattle.breach.proofs.places.breach_from.Statement.{statement}
