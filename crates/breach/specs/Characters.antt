@@ -8,7 +8,7 @@ use lib.ListN.{take}
 use Rattle.ground.specs.Bytes.{byteAt}
 use Rattle.view.specs.Strings.{Part, partOf, partAt}
 
--- how many bytes a character has in UTF-8, by the first of them (RFC 3629)
+-- how many bytes a character has in UTF-8, by the first of them (RFC 3629); a byte that begins none counts as one
 unfoldable pub sizeOf : ℕ → ℕ
 sizeOf b = cond (ltb b 192) 1 (cond (ltb b 224) 2 (cond (ltb b 240) 3 4))
 

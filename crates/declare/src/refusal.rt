@@ -30,7 +30,7 @@ fn put_numbers(out: &mut [u8], at: usize, r: Refusal) -> usize {
     put(out, f, b"\n")
 }
 
-// The character that breaks the rule of names; 0 where there is none to tell.
+// The code point of the character that a 7 stands at, or of the closing quote; 0 for any other number.
 fn letter(text: &[u8], r: Refusal) -> u32 {
     let why = r.why;
     match why {

@@ -1,6 +1,6 @@
 -- A refusal by 7 is one of the text that is added or put, and tells where a string of it breaks its rule: what the set already has is not asked again.
 -- Assumes nothing.
-use mathlib.Core.Path.{_≡_, refl, sym, ap, _∙_, subst}
+use mathlib.Core.Path.{_≡_, refl, subst}
 use mathlib.Core.Bool.{Bool, true, false, not, cond, _&&_}
 use mathlib.Core.List.{List, [], _∷_, _++_}
 use Prim.Native.Nat.{ℕ, _+_}
@@ -11,7 +11,6 @@ use Rattle.answer.specs.declared.refusal.Why.{Why}
 use Rattle.answer.specs.declared.refusal.Why.the-variants.{NotAName, NotWellFormed, NoSuchPlace, TooManyDeclarations, TooManyRows, TooManyStringBytes, DefinedAlready, ReferenceUnknown}
 use Rattle.answer.specs.declared.refusal.Refusal.{Refusal}
 use Rattle.answer.specs.Numbers.{numberOf}
-use Rattle.ground.proofs.Laws.{never}
 use Rattle.row.specs.Layout.{declarationLimit, rowLimit, stringLimit}
 use Rattle.row.specs.Rows.{Row, texts}
 use Rattle.row.specs.Sets.{flat, decode}
@@ -26,11 +25,8 @@ use Rattle.schema.specs.Schema.{declared}
 use Rattle.set.specs.Lists.{Result, becomes, refuses, refuse, next, onRows, onResolved, append, appendAll, addTo, replaceIn}
 use Rattle.set.specs.Calls.{answerOf, onSet, added, replaced}
 use Rattle.told.specs.Told.{Told}
-use Rattle.told.proofs.Told.{told}
+use Rattle.told.proofs.Told.{told, not-seven}
 use Rattle.demands.proofs.Holding.{refused-refuses}
-
-not-seven : {A : Type 0} (w : Why) → eqb (numberOf w) 7 ≡ false → w ≡ NotAName → A
-not-seven w e h = never (sym e ∙ ap (λ (x : Why). eqb (numberOf x) 7) h)
 
 -- 25 and 26 are not 7
 abbrev Other : Resolution → Type 0

@@ -6,6 +6,7 @@ use Prim.Native.Nat.{ℕ, _<_, _≤_}
 use native.Mathlib.Omega.{arith}
 use native.Mathlib.Decide.{decLt}
 use lib.Dec.{eqb, leb}
+use lib.ListN.{length, length-append}
 use borrow.Author.Tests.{eqb-true, ne-eqb, lt-leb}
 use Rattle.ground.specs.Ascii.{ascii}
 use Rattle.name.specs.Name.{every, isEmpty, isWithin, isLetter, isDigit, isFirst, isLater, isSimple, dot, isDotted, startsWithDot, isName, isNamespace}
@@ -13,7 +14,7 @@ use Rattle.name.specs.Rule.{mayStand}
 use Rattle.name.specs.Begin.{Begins, canBegin}
 use Rattle.name.proofs.Parts.{never}
 use Rattle.name.proofs.Laws.{name-lead, name-else}
-use Rattle.name.proofs.Bytewise.{keeps, keeps-simple, keeps-dotted, keeps-on, keeps-front, keeps-off}
+use Rattle.name.proofs.Bytewise.{keeps, keeps-simple, keeps-dotted, keeps-on, keeps-front, namespace-some}
 
 -- ---- one byte
 
@@ -54,10 +55,6 @@ keeps-letter dots first = rw (letter-stands dots first)
 pub keeps-one : (dots first : Bool) (b : ℕ) → keeps dots first (b ∷ ascii "a") ≡ mayStand dots first b
 unfolding keeps
 keeps-one dots first b = rw (letter-stands dots (eqb b dot)) (and-true (mayStand dots first b))
-
--- and more, the first of which may not stand
-pub keeps-high : (dots first : Bool) (b : ℕ) (s : List ℕ) → 128 ≤ b → keeps dots first (b ∷ s) ≡ false
-keeps-high dots first b s h = keeps-off dots first b s (high-not dots first b h)
 
 keeps-follows : (dots first : Bool) (s r : List ℕ) → keeps dots first (s ++ r) ≡ true → keeps dots first (s ++ ascii "a") ≡ true
 keeps-follows dots first [] r e = keeps-letter dots first
@@ -100,13 +97,13 @@ pub name-joined : (b : ℕ) (s : List ℕ) → eqb b dot ≡ false → isName (b
 unfolding startsWithDot
 name-joined b s e = name-else (b ∷ s) e
 
-name-some : canBegin isName [] ≡ true
+name-begun : canBegin isName [] ≡ true
 unfolding canBegin every isFirst isLetter isWithin isSimple isName
-name-some = refl
+name-begun = refl
 
 name-follows : (s : List ℕ) → Begins isName s → canBegin isName s ≡ true
 unfolding canBegin
-name-follows [] b = name-some
+name-follows [] b = name-begun
 name-follows (c ∷ s) b = go (eqb c dot) refl
   where
     go : (x : Bool) → eqb c dot ≡ x → isName (c ∷ (s ++ ascii "a")) ≡ true
@@ -127,26 +124,26 @@ name-low (c ∷ s) r b h = go (eqb c dot) refl
     go false e = dotted-low (c ∷ s) r b (sym (name-joined c (s ++ (b ∷ r)) e) ∙ h)
 
 pub name-lettered : Lettered isName
-name-lettered = record { some = name-some; letter-follows = name-follows; low = name-low }
+name-lettered = record { some = name-begun; letter-follows = name-follows; low = name-low }
 
 -- a namespace that has a byte
 pub namespace-joined : (s : List ℕ) (b : ℕ) (r : List ℕ) → isNamespace (s ++ (b ∷ r)) ≡ isDotted (s ++ (b ∷ r))
-unfolding isNamespace isEmpty
-namespace-joined [] b r = refl
-namespace-joined (c ∷ s) b r = refl
+namespace-joined s b r =
+    let l = length-append s (b ∷ r) in
+    sym (namespace-some (s ++ (b ∷ r)) (λ (e : length (s ++ (b ∷ r)) ≡ 0). omega arith))
 
-namespace-some : canBegin isNamespace [] ≡ true
+namespace-begun : canBegin isNamespace [] ≡ true
 unfolding canBegin
-namespace-some = namespace-joined [] 97 [] ∙ sym (keeps-dotted (ascii "a")) ∙ keeps-letter true true
+namespace-begun = namespace-joined [] 97 [] ∙ sym (keeps-dotted (ascii "a")) ∙ keeps-letter true true
 
 namespace-follows : (s r : List ℕ) → isNamespace (s ++ r) ≡ true → canBegin isNamespace s ≡ true
 unfolding canBegin isNamespace isEmpty
-namespace-follows [] r e = namespace-some
+namespace-follows [] r e = namespace-begun
 namespace-follows (c ∷ s) r e = dotted-follows (c ∷ s) r e
 
 pub namespace-lettered : Lettered isNamespace
 namespace-lettered = record {
-  some = namespace-some;
+  some = namespace-begun;
   letter-follows = λ s b. namespace-follows s (b .rest) (b .whole);
   low = λ s r b e. dotted-low s r b (sym (namespace-joined s b r) ∙ e);
 }

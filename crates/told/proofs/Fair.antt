@@ -31,13 +31,17 @@ lettered simple = simple-lettered
 lettered name = name-lettered
 lettered namespace = namespace-lettered
 
+-- another number is not 7
+pub not-seven : {A : Type 0} (w : Why) → eqb (numberOf w) 7 ≡ false → w ≡ NotAName → A
+not-seven w e h = never (sym e ∙ ap (λ (x : Why). eqb (numberOf x) 7) h)
+
 module _ (t : List ℕ) where
   abbrev pub Fair : Fault → Type 0
   Fair f = f .why ≡ NotAName → Told t (f .at)
 
   -- ---- a fault with another number
   pub other : (w : Why) (q : ℕ) → eqb (numberOf w) 7 ≡ false → Fair (fault w q)
-  other w q e h = never (sym e ∙ ap (λ (x : Why). eqb (numberOf x) 7) h)
+  other w q e h = not-seven w e h
 
   -- ---- checks
   abbrev pub FairCheck : Check → Type 0

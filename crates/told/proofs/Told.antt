@@ -21,7 +21,7 @@ use Rattle.schema.specs.Schema.{within, rowsOf, onScan, declared}
 use Rattle.view.specs.Values.{valueStart}
 use Rattle.told.specs.Told.{Told}
 use Rattle.told.proofs.Fair.{Fair, other, FairOut}
-pub use Rattle.told.proofs.Fair.{lettered}
+pub use Rattle.told.proofs.Fair.{lettered, not-seven}
 use Rattle.told.proofs.Rows.{schema-fair}
 
 -- ---- the scan gives 1, 2 and 3
