@@ -4,9 +4,9 @@
     python3 docs/vectors/declaration.py crates/schema_run      writes stdin and stdout there
     python3 docs/vectors/declaration.py cases                  every text with its label and answer
 
-Written from document 01, its sections Text, Names, Rows and Numbers returned, and for the position of 7 from request A2 of 02,
-and from nothing else; the scan for 1, 2 and 3 is that of scan.py. The texts stand in declaration_texts.py, each with the answer
-that was worked out by hand.
+Written from document 01, its sections Text, Names, Rows and Numbers returned, for the position of 7 from request A2 of 02, for a
+decimal's note 7 from request A10, and from nothing else; the scan for 1, 2 and 3 is that of scan.py. The texts stand in
+declaration_texts.py, each with the answer that was worked out by hand.
 
 stdin has a text to a line in hexadecimal digits, `-` for no bytes. stdout has for each text either `refused NUMBER POSITION`,
 or `row KIND DEPTH POSITION SIZE NOTE PRECISION SCALE HEX` for each row and then `end ROWS BYTES`, the number of rows and of
@@ -322,7 +322,7 @@ class Walk:
         size = v.member(b"size")
         refuse_unless(size is not None, 17, v.at)
         refuse_unless(size_of(size) is not None, 18, size.at)
-        self.definition(v, "fixed", space, depth, told, size_of(size), *decimal(v))
+        self.definition(v, "fixed", space, depth, told, size_of(size), *decimal(v, size_of(size)))
 
 
 def nobody(what):
@@ -337,8 +337,29 @@ def aliases(v):
     return given.inside
 
 
-def decimal(v):
-    """Note, precision and scale of an object whose own type is the string bytes or fixed."""
+# ---- Decimals
+
+def most_digits(n):
+    """The largest whole p for which 10^p is at most 2^(8n - 1) - 1, the highest number of n bytes, n at least 1."""
+    p = 0
+    while 10 ** (p + 1) <= 2 ** (8 * n - 1) - 1:
+        p += 1
+    return p
+
+
+LIMITS = [most_digits(n) for n in range(1, 17)]
+assert LIMITS == [2, 4, 6, 9, 11, 14, 16, 18, 21, 23, 26, 28, 31, 33, 35, 38], "the sixteen numbers of request A10"
+
+
+def limit(size):
+    """The highest precision over a fixed: size 0 allows none, above 16 it stays that of 16."""
+    if size == 0:
+        return 0
+    return LIMITS[size - 1] if size <= 16 else LIMITS[-1]
+
+
+def decimal(v, size=None):
+    """Note, precision and scale of an object whose own type is the string bytes or fixed; a fixed's size is given."""
     logical = v.member(b"logicalType")
     if logical is None or logical.kind != "string" or logical.inside != b"decimal":
         return 0, 0, 0
@@ -354,6 +375,8 @@ def decimal(v):
         return 5, 0, 0
     if p < s:
         return 6, 0, 0
+    if size is not None and p > limit(size):
+        return 7, 0, 0
     return 1, p, s
 
 
@@ -407,7 +430,7 @@ def main(where):
     for n in list(range(2, 20)) + [27, 28]:
         assert counts[n] >= 6, ("fewer than six", n)
     stdin = "\n".join(lines) + "\n"
-    assert len(cases) >= 450 and len(stdin) < 900000, (len(cases), len(stdin))
+    assert len(cases) >= 450 and len(stdin) < 1050000, (len(cases), len(stdin))
     if where != "cases":
         os.makedirs(where, exist_ok=True)
         open(os.path.join(where, "stdin"), "w").write(stdin)

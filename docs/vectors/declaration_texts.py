@@ -1,6 +1,6 @@
 #!/usr/bin/env python3
 """The texts of declaration.py, each with the answer that was worked out by hand from document 01 and, where 7 stands, from
-request A2 of 02.
+request A2 of 02; a decimal's note 7 is that of request A10.
 
 In a text ^ marks the byte where the refusal must stand and is left out; in an accepted text the marks, if there are any, are
 the positions of all rows. ~40~ stands for the letter n forty times. Rows are written `DEPTH KIND STRING`, with `=SIZE` and
@@ -769,6 +769,15 @@ yes("unknown members everywhere", "0 record R; 1 field f; 2 map; 3 enum E; 4 sym
 
 # ---- decimals
 
+# 02's numbers as request A10 has them, for the sizes 1 to 16; the reader works them out
+SIXTEEN = [2, 4, 6, 9, 11, 14, 16, 18, 21, 23, 26, 28, 31, 33, 35, 38]
+
+
+def most(size):
+    """The most digits of a decimal over a fixed of this size."""
+    return {0: 0, **dict(enumerate(SIXTEEN, 1))}.get(size, 38)
+
+
 D = '"logicalType":"decimal"'
 yes("a decimal over bytes", "0 bytes #1,9,2", '{"type":^"bytes",%s,"precision":9,"scale":2}' % D)
 yes("a decimal over fixed", "0 fixed F =4 #1,9,2", '{"type":"fixed","name":^"F","size":4,%s,"precision":9,"scale":2}' % D)
@@ -776,7 +785,7 @@ yes("a missing scale is 0", "0 bytes #1,9,0", '{"type":"bytes",%s,"precision":9}
 yes("scale as precision", "0 bytes #1,7,7", '{"type":"bytes",%s,"precision":7,"scale":7}' % D)
 yes("precision 1", "0 bytes #1,1,0", '{"type":"bytes",%s,"precision":1}' % D)
 yes("the highest precision and scale", "0 bytes #1,18446744073709551615,18446744073709551615", '{"type":"bytes",%s,"precision":18446744073709551615,"scale":18446744073709551615}' % D)
-yes("a precision beyond what the fixed holds", "0 fixed F =1 #1,100,0", '{"type":"fixed","name":"F","size":1,%s,"precision":100}' % D)
+yes("a precision beyond what the fixed holds", "0 fixed F =1 #7", '{"type":"fixed","name":"F","size":1,%s,"precision":100}' % D)
 for over, row in (('{"type":"bytes",', "0 bytes"), ('{"type":"fixed","name":"F","size":4,', "0 fixed F =4")):
     k = row.split()[1]
     yes("note 2 over " + k, row + " #2", over + D + "}")
@@ -932,10 +941,12 @@ class Mark:
 
 class Maker:
     """Writes a schema of random form with its rows. A text is a tree of strings and marks, so that positions come out once it
-    is laid flat. With a site number, the fault of that site is put in, and `fault` tells what must be found."""
+    is laid flat. With a site number, the fault of that site is put in, and `fault` tells what must be found. With `fit` there
+    are many decimals over fixed, around their limits; what is drawn for them comes from a source of its own."""
 
-    def __init__(self, seed, site=None):
+    def __init__(self, seed, site=None, fit=False):
         self.rng, self.site, self.sites, self.fault, self.serial = random.Random(seed), site, 0, None, 0
+        self.fit, self.notes = random.Random("fit %d" % seed) if fit else None, []
         self.room = self.rng.randint(6, 22)
 
     def here(self, number, mark):
@@ -989,7 +1000,7 @@ class Maker:
             return [m, "{", self.spaced(), "}"], []
         self.room -= 1
         kinds = ["primitive", "reference", "record", "enum", "fixed", "array", "map", "union"]
-        weights = [4, 2, 3, 2, 2, 2, 2, 2]
+        weights = [4, 2, 3, 2, 9 if self.fit else 2, 2, 2, 2]
         if self.room <= 0 or depth > 14:
             weights = [4, 2, 0, 0, 0, 0, 0, 0]
         if taken is not None:
@@ -1039,6 +1050,20 @@ class Maker:
         if note == 6:
             given["scale"] = str(p + 1)
         return [("logicalType", '"decimal"')] + list(given.items()), (note, p if note == 1 else 0, s if note == 1 else 0)
+
+    def around(self, extra, note):
+        """A size, and at most times a decimal whose precision is at its limit, or a little or much above or below."""
+        r = self.fit.random
+        size = self.fit.choice((0, 17, 18, 256, 2 ** 32 + 1, 2 ** 61 + 1, 2 ** 64 - 1)) if r() < 0.25 else self.fit.randint(1, 16)
+        if r() < 0.35:
+            return size, extra, note
+        p = self.fit.choice((0, 0, 0, 0, -1, -1, -2, 1, 1, 1, 2, 256, 2 ** 32)) + most(size)
+        p, s = max(p, 1), 0
+        given = [("logicalType", '"decimal"'), ("precision", str(p))]
+        if r() < 0.5:
+            s = self.fit.choice((0, 1, p))
+            given.append(("scale", str(s)))
+        return size, given, (1, p, s)
 
     def reference(self, space, depth, taken):
         m, b, s = Mark(), Mark(), self.fresh()
@@ -1163,6 +1188,11 @@ class Maker:
         obj, v = Mark(), Mark()
         size = self.rng.choice((0, 1, 16, 2 ** 32, 2 ** 64 - 1, self.rng.randrange(2 ** 64)))
         extra, note = self.decimal() if self.rng.random() < 0.4 else ([], (0, 0, 0))
+        if self.fit:
+            size, extra, note = self.around(extra, note)
+        if note[0] == 1 and note[1] > most(size):
+            note = (7, 0, 0)
+        self.notes.append(note[0])
         given = [("size", [v, self.rng.choice(('"16"', "-1", "16.0", str(2 ** 64))) if self.here(18, v) else str(size)])]
         if self.here(17, obj):
             given = []
@@ -1207,13 +1237,17 @@ def flat(tree, out, places):
             flat(t, out, places)
 
 
-def made(seed, site=None):
-    maker = Maker(seed, site)
+def made(seed, site=None, fit=False):
+    maker = Maker(seed, site, fit)
     text, rows = maker.schema("", 0)
     out, places = bytearray(), {}
     out += b" \n"[:seed % 3]
     flat(text, out, places)
     return maker, bytes(out), rows, places
+
+
+def row_lines(rows, places):
+    return ["row %s %d %d %d %d %d %d %s" % (k, d, places[m], size, note, p, sc, s.encode().hex() or "-") for k, d, m, s, size, note, p, sc in rows]
 
 
 def generated():
@@ -1225,8 +1259,7 @@ def generated():
         if len(text) < 40 or len(text) > 2500 or text in seen:
             continue
         seen.add(text)
-        lines = ["row %s %d %d %d %d %d %d %s" % (k, d, places[m], size, note, p, sc, s.encode().hex() or "-") for k, d, m, s, size, note, p, sc in rows]
-        CASES.append(Case("ok generated %d" % seed, text, 0, None, lines, None))
+        CASES.append(Case("ok generated %d" % seed, text, 0, None, row_lines(rows, places), None))
         good += 1
     rng = random.Random(1912)
     wanted = collections.Counter({n: 8 for n in list(range(4, 20)) + [27, 28]})
@@ -1448,5 +1481,235 @@ def many_names():
 many_names()
 
 
+# ---- decimals that fit: request A10 of 02
+#
+# They stand in a list of their own, behind all the others: sequences.py picks texts of CASES by their number there.
+
+FIT = []
+HIGH = 2 ** 64 - 1
+
+
+def kept():
+    FIT.append(CASES.pop())
+
+
+def fit(label, rows, text):
+    yes("fit: " + label, rows, text)
+    kept()
+
+
+def unfit(number, label, text):
+    no(number, "fit: " + label, text)
+    kept()
+
+
+def fixed_decimal(size, precision, scale=None, name="F"):
+    """The text of a decimal over fixed; None leaves a member out."""
+    given = (("precision", precision), ("scale", scale))
+    return '{"type":"fixed","name":^"%s","size":%s,%s%s}' % (name, size, D, "".join(',"%s":%s' % (k, v) for k, v in given if v is not None))
+
+
+def over_fixed(label, size, precision, scale, note, name="D"):
+    """A text of size, precision and scale, and its note as it was worked out by hand."""
+    row = "0 fixed %s =%d #%s" % (name, size, "1,%d,%d" % (precision, scale or 0) if note == 1 else note)
+    fit("size %d, %s" % (size, label), row, fixed_decimal(size, precision, scale, name))
+
+
+# the examples of the request's design
+for size, precision, scale, note in ((0, 1, 0, 7), (1, 2, 0, 1), (1, 3, 0, 7), (1, 3, 4, 6), (1, 3, 3, 7), (1, 0, 0, 5), (4, 9, 9, 1), (4, 10, 0, 7), (16, 38, None, 1), (16, 39, None, 7),
+                                     (17, 38, None, 1), (17, 39, None, 7), (HIGH, 38, None, 1)):
+    over_fixed("an example, precision %d, scale %s" % (precision, scale), size, precision, scale, note, "Example")
+fit("an example, bytes", "0 bytes #1,1000,0", '{"type":^"bytes",%s,"precision":1000}' % D)
+
+# every size from 0 to 18, and the highest
+for size in list(range(19)) + [HIGH]:
+    m = most(size)
+    if m:
+        over_fixed("at the limit", size, m, None, 1)
+        over_fixed("at the limit, as much scale", size, m, m, 1)
+    over_fixed("one above", size, m + 1, None, 7)
+    over_fixed("one above, as much scale", size, m + 1, m + 1, 7)
+    over_fixed("one above, scale above it", size, m + 1, m + 2, 6)
+    over_fixed("precision 0", size, 0, None, 5)
+    over_fixed("precision 0, scale above it", size, 0, m + 1, 5)
+    over_fixed("the highest precision", size, HIGH, None, 7)
+    over_fixed("2^32 above the limit", size, 2 ** 32 + m, None, 7)
+for size in (1, 8, 16, 17):
+    m = most(size)
+    over_fixed("one below the limit, scale 1", size, m - 1, 1, 1)
+    over_fixed("at the limit, scale above it", size, m, m + 1, 6)
+    over_fixed("one above, scale 0", size, m + 1, 0, 7)
+    over_fixed("ten above, scale 3", size, m + 10, 3, 7)
+    for more in (256, 65536, 2 ** 63):
+        over_fixed("%d above the limit" % more, size, more + m, None, 7)
+    over_fixed("the highest precision and scale", size, HIGH, HIGH, 7)
+    over_fixed("the highest scale", size, HIGH - 1, HIGH, 6)
+
+# sizes above 18: 38 fits and 39 does not, whatever the size's low bytes, or eight times the size, are
+for size in (19, 31, 32, 33, 64, 128, 255, 256, 257, 260, 65536, 65537, 2 ** 24 + 2, 2 ** 31, 2 ** 32 - 1, 2 ** 32, 2 ** 32 + 1, 2 ** 32 + 16, 2 ** 61, 2 ** 61 + 1, 2 ** 61 + 2, 2 ** 62 + 1, 2 ** 63 - 1, 2 ** 63,
+             2 ** 63 + 16, HIGH - 1):
+    over_fixed("38 digits", size, 38, None, 1)
+    over_fixed("39 digits", size, 39, 38, 7)
+for size in (256, 257, 2 ** 32, 2 ** 32 + 1, 2 ** 61 + 1, 2 ** 63):
+    over_fixed("3 digits, all of them scale", size, 3, 3, 1)
+    over_fixed("39 digits, scale above it", size, 39, 40, 6)
+
+# 2, 3 and 4 come before 7; a number over 2^64 - 1 is no precision
+for size in (0, 1, HIGH):
+    for label, note, members in (("precision missing", 2, ""), ("precision missing, scale given", 2, ',"scale":5'), ("a precision in quotes", 3, ',"precision":"99"'), ("a precision of 2^64", 3, ',"precision":%d' % 2 ** 64),
+                                 ("a precision 99.0", 3, ',"precision":99.0'), ("a precision 1e2, bad scale", 3, ',"precision":1e2,"scale":-1'), ("a bad scale", 4, ',"precision":99,"scale":-1'),
+                                 ("a scale of 2^64", 4, ',"precision":99,"scale":%d' % 2 ** 64), ("a scale null", 4, ',"scale":null,"precision":99'), ("a bad scale, precision 0", 4, ',"precision":0,"scale":"0"')):
+        fit("size %d, %s" % (size, label), "0 fixed F =%d #%d" % (size, note), '{"type":"fixed","name":"F","size":%d,%s%s}' % (size, D, members))
+
+# the members in any order
+IN_ORDER = [("type", '"fixed"'), ("name", '^"F"'), ("size", "%d"), ("logicalType", '"decimal"'), ("precision", "%d"), ("scale", "2")]
+for back in (False, True):
+    for first in range(6):
+        keys = (IN_ORDER[first:] + IN_ORDER[:first])[::-1 if back else 1]
+        precision, note = (12, "#7") if (first + back) % 2 else (11, "#1,11,2")
+        text = "{" + ",".join('"%s":%s' % (k, v % {"size": 5, "precision": precision}[k] if "%" in v else v) for k, v in keys) + "}"
+        fit("from %s on%s" % (IN_ORDER[first][0], ", back" if back else ""), "0 fixed F =5 " + note, text)
+fit("size last, precision first, fits", "0 fixed F =2 #1,4,0", '{"precision":4,%s,"type":"fixed","name":^"F","size":2}' % D)
+fit("size last, precision first, does not fit", "0 fixed F =2 #7", '{"precision":5,%s,"type":"fixed","name":^"F","size":2}' % D)
+fit("size first, type last", "0 fixed F =2 #7", '{"size":2,"name":^"F","scale":1,"precision":5,%s,"type":"fixed"}' % D)
+
+# keys given twice: the last counts
+fit("size twice, the last smaller", "0 fixed F =1 #7", '{"type":"fixed","name":"F","size":2,%s,"precision":3,"size":1}' % D)
+fit("size twice, the last larger", "0 fixed F =2 #1,3,0", '{"type":"fixed","name":"F","size":1,%s,"precision":3,"size":2}' % D)
+fit("size twice, the first no size", "0 fixed F =1 #7", '{"type":"fixed","name":"F","size":"16",%s,"precision":3,"size":1}' % D)
+fit("size twice, the last 0", "0 fixed F =0 #7", '{"size":16,"type":"fixed","name":"F","size":0,%s,"precision":1}' % D)
+fit("size thrice", "0 fixed F =3 #1,6,6", '{"size":1,"type":"fixed","size":2,"name":"F","size":3,"scale":6,%s,"precision":6}' % D)
+fit("precision twice, the last fits", "0 fixed F =1 #1,2,0", '{"type":"fixed","name":"F","size":1,%s,"precision":3,"precision":2}' % D)
+fit("precision twice, the last does not fit", "0 fixed F =1 #7", '{"type":"fixed","name":"F","size":1,%s,"precision":2,"precision":3}' % D)
+fit("precision twice, the first bad", "0 fixed F =1 #7", '{"type":"fixed","name":"F","size":1,%s,"precision":null,"precision":3}' % D)
+fit("precision twice, the last bad", "0 fixed F =1 #3", '{"type":"fixed","name":"F","size":1,%s,"precision":3,"precision":-3}' % D)
+fit("scale twice, the last above the precision", "0 fixed F =1 #6", '{"type":"fixed","name":"F","size":1,%s,"precision":3,"scale":3,"scale":4}' % D)
+fit("scale twice, the last not above the precision", "0 fixed F =1 #7", '{"type":"fixed","name":"F","size":1,%s,"precision":3,"scale":4,"scale":3}' % D)
+fit("logical type twice, the last another", "0 fixed F =1", '{"type":"fixed","name":"F","size":1,%s,"precision":3,"logicalType":"duration"}' % D)
+fit("logical type twice, the last decimal", "0 fixed F =1 #7", '{"type":"fixed","name":"F","size":1,"logicalType":"duration","precision":3,%s}' % D)
+fit("type twice, the last bytes", "0 bytes #1,99,0", '{"type":"fixed","name":"F","size":1,%s,"precision":99,"type":^"bytes"}' % D)
+fit("type twice, the last fixed", "0 fixed F =1 #7", '{"type":"bytes","name":^"F","size":1,%s,"precision":99,"type":"fixed"}' % D)
+
+# escapes
+fit("an escape in size", "0 fixed F =1 #7", r'{"type":"fixed","name":^"F","s\u0069ze":1,%s,"precision":3}' % D)
+fit("an escape in size, fits", "0 fixed F =1 #1,2,0", r'{"type":"fixed","name":^"F","siz\u0065":1,%s,"precision":2}' % D)
+fit("an escape in precision", "0 fixed F =1 #7", r'{"type":"fixed","name":^"F","size":1,%s,"\u0070recision":3}' % D)
+fit("an escape in scale", "0 fixed F =1 #6", r'{"type":"fixed","name":^"F","size":1,%s,"precision":3,"sc\u0061le":4}' % D)
+fit("an escape in the logical type", "0 fixed F =1 #7", r'{"type":"fixed","name":^"F","size":1,"logicalT\u0079pe":"\u0064ecimal","precision":3}')
+fit("an escape in the type", "0 fixed F =1 #7", r'{"type":"f\u0069xed","name":^"F","size":1,%s,"precision":3}' % D)
+fit("size twice, the last with an escape", "0 fixed F =1 #7", r'{"type":"fixed","name":^"F","size":16,%s,"precision":3,"\u0073ize":1}' % D)
+fit("size twice, the first with an escape", "0 fixed F =16 #1,38,0", r'{"type":"fixed","\u0073ize":1,"name":^"F","size":16,%s,"precision":38}' % D)
+fit("precision twice, the last with an escape", "0 fixed F =1 #7", r'{"type":"fixed","name":^"F","size":1,%s,"precision":2,"precisio\u006e":3}' % D)
+
+# bytes have no limit, and their `size` is not looked at
+for p in (3, 38, 39, 40, 128, 255, 256, 2 ** 32, 2 ** 63, HIGH):
+    fit("bytes, precision %d" % p, "0 bytes #1,%d,0" % p, '{"type":^"bytes",%s,"precision":%d}' % (D, p))
+    fit("bytes, precision %d, scale one less" % p, "0 bytes #1,%d,%d" % (p, p - 1), '{"type":^"bytes",%s,"precision":%d,"scale":%d}' % (D, p, p - 1))
+for size in ("0", "1", "16", str(HIGH), "-1", '"x"', "null", "1.5", "[]"):
+    fit("bytes with a size %s" % size, "0 bytes #1,1000,1", '{"type":^"bytes","size":%s,%s,"precision":1000,"scale":1}' % (size, D))
+fit("bytes with a size behind and a name", "0 bytes #1,39,0", '{"name":"F","precision":39,%s,"type":^"bytes","size":1}' % D)
+fit("bytes with size 0, precision 1", "0 bytes #1,1,0", '{"type":^"bytes",%s,"precision":1,"size":0}' % D)
+fit("bytes with a size, scale above", "0 bytes #6", '{"type":^"bytes",%s,"size":1,"precision":1000,"scale":1001}' % D)
+fit("bytes with a size, no precision", "0 bytes #2", '{"type":^"bytes",%s,"size":1}' % D)
+
+# the object whose own type is fixed
+fit("a decimal beside a nested fixed", "0 fixed F =1", '{"type":{"type":"fixed","name":^"F","size":1},%s,"precision":3}' % D)
+fit("a decimal in a nested fixed, another size outside", "0 fixed F =1 #7", '{"size":16,"type":{"type":"fixed","name":^"F","size":1,%s,"precision":3},"precision":2}' % D)
+fit("a decimal in a nested fixed, a smaller size outside", "0 fixed F =16 #1,38,1", '{"type":{"type":"fixed","name":^"F","size":16,%s,"precision":38,"scale":1},"size":1}' % D)
+fit("another logical type, however many digits", "0 fixed F =1", '{"type":"fixed","name":^"F","size":1,"logicalType":"Decimal","precision":99}')
+fit("no logical type, however many digits", "0 fixed F =1", '{"type":"fixed","name":^"F","size":1,"precision":99,"scale":100}')
+fit("a reference with the members of a decimal", "0 reference F", '{"type":^"F","size":1,%s,"precision":99}' % D)
+fit("an enum with the members of a decimal", "0 enum F", '{"type":"enum","name":^"F","symbols":[],"size":1,%s,"precision":99}' % D)
+
+# in fields, unions, arrays and maps
+fit("a fixed with aliases", "0 fixed a.F =1 #7; 1 alias a.G; 1 alias H", '{"type":"fixed","name":^"F","namespace":"a","aliases":[^"G",^".H"],"size":1,%s,"precision":3}' % D)
+fit("in an array", "0 array; 1 fixed F =3 #7", '^{"type":"array","items":%s}' % fixed_decimal(3, 7))
+fit("in a map", "0 map; 1 fixed F =3 #1,6,1", '^{"type":"map","values":%s}' % fixed_decimal(3, 6, 1))
+fit("in a map of arrays of unions", "0 map; 1 array; 2 union; 3 null; 3 fixed F =8 #7; 3 fixed G =8 #1,18,18; 3 bytes #1,99,0",
+    '^{"type":"map","values":^{"type":"array","items":^[^"null",%s,%s,{"type":^"bytes",%s,"precision":99}]}}' % (fixed_decimal(8, 19, 18), fixed_decimal(8, 18, 18, "G"), D))
+fit("in a union beside bytes", "0 union; 1 bytes; 1 fixed F =1 #7", '^[^"bytes",%s]' % fixed_decimal(1, 3))
+fit("in a union, the same digits at four sizes", "0 union; 1 fixed A =0 #7; 1 fixed B =3 #7; 1 fixed C =4 #1,9,9; 1 fixed D =5 #1,9,9",
+    "^[%s]" % ",".join(fixed_decimal(size, 9, 9, name) for size, name in ((0, "A"), (3, "B"), (4, "C"), (5, "D"))))
+fit("in a union, a definition that does not fit and a name that is longer", "0 union; 1 fixed F =2 #7; 1 reference FF", '^[%s,^"FF"]' % fixed_decimal(2, 5))
+fit("two fields, the second refers to the first's", "0 record R; 1 field a; 2 fixed F =2 #7; 1 field b; 2 reference F",
+    '{"type":"record","name":^"R","fields":[{"name":^"a","type":%s},{"name":^"b","type":{"type":^"F",%s,"precision":4}}]}' % (fixed_decimal(2, 5), D))
+fit("a field's own members are no decimal's", "0 record R; 1 field f; 2 fixed F =2 #1,4,0", '{"type":"record","name":^"R","fields":[{"name":^"f","size":1,"precision":9,%s,"type":%s}]}' % (D, fixed_decimal(2, 4)))
+fit("every size, at the limit", "0 record R" + "".join("; 1 field f%d; 2 fixed F%d =%d #1,%d,0" % (i, i, i, m) for i, m in enumerate(SIXTEEN, 1)),
+    '{"type":"record","name":^"R","fields":[%s]}' % ",".join('{"name":^"f%d","type":%s}' % (i, fixed_decimal(i, m, None, "F%d" % i)) for i, m in enumerate(SIXTEEN, 1)))
+fit("every size, one above", "0 union" + "".join("; 1 fixed F%d =%d #7" % (i, i) for i, m in enumerate(SIXTEEN, 1)), "^[%s]" % ",".join(fixed_decimal(i, m + 1, m, "F%d" % i) for i, m in enumerate(SIXTEEN, 1)))
+fit("twenty digits at every size", "0 union" + "".join("; 1 fixed F%d =%d #%s" % (i, i, "7" if i < 9 else "1,20,0") for i in range(19)), "^[%s]" % ",".join(fixed_decimal(i, 20, None, "F%d" % i) for i in range(19)))
+fit("a ledger over lines", "0 record bank.Entry; 1 field amount; 2 fixed bank.Amount =8 #1,18,2; 1 field total; 2 fixed bank.Total =8 #7; 1 field rate; 2 bytes #1,60,40; 1 field fee; 2 union; 3 null; 3 reference bank.Amount", """
+{
+  "type": "record",
+  "name": ^"Entry",
+  "namespace": "bank",
+  "fields": [
+    {"name": ^"amount", "type": {"type": "fixed", "name": ^"Amount", "size": 8, "logicalType": "decimal", "precision": 18, "scale": 2}},
+    {"name": ^"total", "type": {"type": "fixed", "name": ^"Total", "size": 8, "logicalType": "decimal", "precision": 20, "scale": 2}},
+    {"name": ^"rate", "type": {"type": ^"bytes", "logicalType": "decimal", "precision": 60, "scale": 40}},
+    {"name": ^"fee", "type": ^[^"null", ^"Amount"], "default": null}
+  ]
+}
+""")
+
+# refused all the same: a note is never a refusal, and takes none away
+unfit(6, "no name", '^{"type":"fixed","size":1,%s,"precision":3}' % D)
+unfit(6, "a name that is no string", '^{"type":"fixed","name":5,"size":1,%s,"precision":3}' % D)
+unfit(7, "a bad name", '{"type":"fixed","name":"F^-","size":1,%s,"precision":3}' % D)
+unfit(7, "a bad namespace", '{"type":"fixed","name":"F","namespace":"a.^","size":1,%s,"precision":3}' % D)
+unfit(7, "a bad alias", '{"type":"fixed","name":"F","aliases":["G","^1"],"size":1,%s,"precision":3}' % D)
+unfit(8, "a reserved name", '{"type":"fixed","name":^"bytes","size":1,%s,"precision":3}' % D)
+unfit(8, "a reserved alias", '{"type":"fixed","name":"F","aliases":[^"a.fixed"],"size":1,%s,"precision":3}' % D)
+unfit(9, "a name of 256 bytes", '{"type":"fixed","name":^"~256~","size":1,%s,"precision":3}' % D)
+unfit(17, "no size", '^{"type":"fixed","name":"F",%s,"precision":3}' % D)
+unfit(17, "no size, the highest precision", '^{"type":"fixed","name":"F","Size":16,%s,"precision":%d}' % (D, HIGH))
+unfit(17, "no size and no name", '^{"type":"fixed",%s,"precision":39}' % D)
+unfit(17, "a size outside a nested fixed", '{"size":1,"type":^{"type":"fixed","name":"F",%s,"precision":3}}' % D)
+for w in ("-1", '"1"', "1.0", "1e0", "null", "[1]", str(2 ** 64), "-0"):
+    unfit(18, "a size %s" % w, '{"type":"fixed","name":"F","size":^%s,%s,"precision":3}' % (w, D))
+unfit(18, "size twice, the last no size", '{"type":"fixed","name":"F","size":1,%s,"precision":3,"size":^true}' % D)
+unfit(18, "before 6 and 7", '{"type":"fixed","namespace":"1",%s,"precision":39,"size":^-1}' % D)
+unfit(19, "two of one name, the second does not fit", '[%s,^%s]' % (fixed_decimal(1, 2).replace("^", ""), fixed_decimal(1, 3).replace("^", "")))
+unfit(19, "two of one name, the first does not fit", '[%s,^%s]' % (fixed_decimal(1, 3).replace("^", ""), fixed_decimal(1, 2).replace("^", "")))
+unfit(19, "a name and its definition that does not fit", '["F",^%s]' % fixed_decimal(0, 1).replace("^", ""))
+unfit(19, "a definition that does not fit and its name", '[%s,^"F"]' % fixed_decimal(0, 1).replace("^", ""))
+unfit(19, "two decimals over bytes beside one over fixed", '[%s,{"type":"bytes",%s,"precision":99},^{"type":"bytes","size":1,%s,"precision":3}]' % (fixed_decimal(0, 1).replace("^", ""), D, D))
+unfit(4, "behind one that does not fit", '[%s,^5]' % fixed_decimal(1, 3).replace("^", ""))
+unfit(11, "two fields of one name, both do not fit", '{"type":"record","name":"R","fields":[{"name":"f","type":%s},{"name":^"f","type":%s}]}' % (fixed_decimal(1, 3).replace("^", ""), fixed_decimal(1, 3, None, "G").replace("^", "")))
+
+
+def generated_decimals():
+    """Texts of the generator with decimals over fixed around their limits."""
+    seen = {c.text for c in CASES + NEAR + FIT}
+    counted, good, seed = collections.Counter(), 0, 20000
+    while good < 30:
+        seed += 1
+        _, text, rows, places = made(seed, None, True)
+        notes = [note for k, _, _, _, _, note, _, _ in rows if k == "fixed"]
+        if len(text) > 600 or text in seen or len(notes) < 2 or not set(notes) & {1, 7}:
+            continue
+        seen.add(text)
+        counted.update(notes)
+        CASES.append(Case("ok generated decimals %d" % seed, text, 0, None, row_lines(rows, places), None))
+        kept()
+        good += 1
+    assert counted[1] >= 20 and counted[7] >= 20 and len(counted) >= 7, counted
+    wanted = collections.Counter({6: 1, 7: 2, 8: 1, 17: 2, 18: 2, 19: 2})
+    while sum(wanted.values()):
+        seed += 1
+        for site in range(made(seed, None, True)[0].sites):
+            maker, text, _, places = made(seed, site, True)
+            if maker.fault is None or wanted[maker.fault[0]] <= 0 or len(text) > 500 or text in seen or maker.fault[1] not in places or 7 not in maker.notes:
+                continue
+            seen.add(text)
+            wanted[maker.fault[0]] -= 1
+            CASES.append(Case("%d generated decimals %d at %d" % (maker.fault[0], seed, site), text, maker.fault[0], places[maker.fault[1]], None, None))
+            kept()
+            break
+
+
+generated_decimals()
+
+
 def all_cases():
-    return CASES + NEAR
+    return CASES + NEAR + FIT

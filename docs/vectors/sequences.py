@@ -6,10 +6,10 @@
     python3 docs/vectors/sequences.py labels                     each sequence's first line and what it is about
 
 Each sequence starts with `memory 51266`, `fill 0`, `open`. Beside each call stands what it must answer, worked out by hand from
-document 01 and, where 7 stands, from request A2 of 02: the number of a refusal, whose position is marked by ^ in the text at
-fault, or the counts. Two things are tried of every call that changes the set: a refusal leaves the digest as it was; and the
-memory is the one that adding the same texts to an empty set gives. Of a refused replacement it is tried that adding the edited
-list one by one is refused in the same way.
+document 01 and from two requests of 02, A2 where 7 stands and A10 for a decimal's note 7: the number of a refusal, whose position
+is marked by ^ in the text at fault, or the counts. Two things are tried of every call that changes the set: a refusal leaves the
+digest as it was; and the memory is the one that adding the same texts to an empty set gives. Of a refused replacement it is tried
+that adding the edited list one by one is refused in the same way.
 """
 import os
 import random
@@ -884,7 +884,7 @@ def memories():
         ("a row more in a declaration", 2, b"\x08"), ("a row less in a declaration", 2, b"\6"), ("rows moved between declarations", 2, b"\6\0\5\0"), ("a spare count", 10, b"\1"), ("the last spare count", 64, b"\0\1"),
         ("kind 0", row[2], b"\0"), ("kind 9", row[2], b"\x09"), ("kind 255", row[2], b"\xff"), ("a primitive made a reference", row[2], b"\x10"), ("a field made a symbol", row[1], b"\x29"),
         ("a symbol made a field", row[9], b"\x28"), ("an alias made a field alias", row[8], b"\x31"), ("a union made an array", row[4], b"\x18"), ("a record made an enum", row[0], b"\x21"),
-        ("a note on an int", row[2] + 1, b"\1"), ("note 7", row[13] + 1, b"\7"), ("note 1 without a precision", row[13] + 1, b"\1"), ("the decimal's note taken away", row[11] + 1, b"\0"),
+        ("a note on an int", row[2] + 1, b"\1"), ("note 7 on bytes", row[13] + 1, b"\7"), ("note 1 without a precision", row[13] + 1, b"\1"), ("the decimal's note taken away", row[11] + 1, b"\0"),
         ("a depth more", row[2] + 2, b"\3"), ("a depth less", row[2] + 2, b"\1"), ("a depth of the top row", row[0] + 2, b"\1"), ("a high byte of a depth", row[5] + 3, b"\1"),
         ("position 32,768", row[6] + 5, b"\x80"), ("a length more", row[0] + 6, b"\4"), ("a length less", row[0] + 6, b"\2"), ("a start more", row[3] + 8, b"\5"), ("a start of a row that keeps no string", row[2] + 8, b"\0"),
         ("a size on a record", row[0] + 10, b"\1"), ("a size's high byte on a union", row[4] + 17, b"\1"), ("a precision on a string row", row[9] + 18, b"\1"), ("scale over precision", row[11] + 26, b"\6"),
@@ -907,7 +907,7 @@ def memories():
         text_of(0, 0, 5, 20)
     good = [
         ("a position", row[6] + 4, b"\xff\x7f"), ("positions in another order", row[0] + 4, b"\0\x10"), ("all positions alike", row[7] + 4, b"\x18\0"), ("the size", row[11] + 10, b"\xff\xff\xff\xff\xff\xff\xff\xff"),
-        ("the precision", row[11] + 18, b"\xff\xff\xff\xff\xff\xff\xff\xff"), ("scale as precision", row[11] + 26, b"\5"), ("note 6 on bytes", row[13] + 1, b"\6"), ("a field's name", 34885, b"_"), ("a symbol", 34897, b"Z"),
+        ("the precision", row[11] + 18, b"\x12"), ("scale as precision", row[11] + 26, b"\5"), ("note 6 on bytes", row[13] + 1, b"\6"), ("a field's name", 34885, b"_"), ("a symbol", 34897, b"Z"),
         ("an int made a string", row[2], b"\x08"), ("an alias", 34895, b"Q"), ("a fixed's name", 34898, b"G"),
     ]
     for label, at, data in good:
@@ -1058,33 +1058,36 @@ HEAVY = [rows("C", 400), rows("B", 500)]
 
 def random_ones():
     for seed in range(40):
-        rng = random.Random(seed + 7)
-        seq("random %d" % seed)
-        for _ in range(rng.randint(8, 16)):
-            if Now.digest is None:
-                digest()
-            n = len(Now.texts)
-            text = unmarked(rng.choice(HEAVY if rng.random() < 0.04 else POOL))[0]
-            if rng.random() < 0.45:
-                line, place = "add", n
-            else:
-                place = rng.randrange(n + 1) if rng.random() < 0.1 else rng.randrange(max(n, 1))
-                line = "replace %d" % place
-            before = Now.digest
-            got = say(line + " " + text.hex())
+        random_calls("random %d" % seed, random.Random(seed + 7), lambda rng: rng.choice(HEAVY if rng.random() < 0.04 else POOL))
+
+
+def random_calls(label, rng, drawn):
+    seq(label)
+    for _ in range(rng.randint(8, 16)):
+        if Now.digest is None:
             digest()
-            edited = Now.texts[:place] + [text] + Now.texts[place + 1:]
-            if got[0].startswith("ok"):
-                Now.texts = edited
-                assert from_nothing(edited) == bytes(Now.machine.memory[:replay.LENGTH])
-            else:
-                assert before == Now.digest
-                assert got[0].startswith("refused 21 ") or from_nothing(edited) == got
+        n = len(Now.texts)
+        text = unmarked(drawn(rng))[0]
+        if rng.random() < 0.45:
+            line, place = "add", n
+        else:
+            place = rng.randrange(n + 1) if rng.random() < 0.1 else rng.randrange(max(n, 1))
+            line = "replace %d" % place
+        before = Now.digest
+        got = say(line + " " + text.hex())
+        digest()
+        edited = Now.texts[:place] + [text] + Now.texts[place + 1:]
+        if got[0].startswith("ok"):
+            Now.texts = edited
+            assert from_nothing(edited) == bytes(Now.machine.memory[:replay.LENGTH])
+        else:
+            assert before == Now.digest
+            assert got[0].startswith("refused 21 ") or from_nothing(edited) == got
+    for place in range(len(Now.texts)):
+        say("fingerprint %d" % place)
+    if sum(len(t) for t in Now.texts) < 600:
         for place in range(len(Now.texts)):
-            say("fingerprint %d" % place)
-        if sum(len(t) for t in Now.texts) < 600:
-            for place in range(len(Now.texts)):
-                say("rows %d" % place)
+            say("rows %d" % place)
 
 
 # ---- 25 and 26 over names that nearly agree
@@ -1251,6 +1254,270 @@ def breaches():
     full()
 
 
+# ---- decimals that fit: request A10 of 02
+
+def DF(n, size, precision, scale=None):
+    """A decimal over fixed."""
+    return '{"type":"fixed","name":^"%s","size":%d,"logicalType":"decimal","precision":%d%s}' % (n, size, precision, "" if scale is None else ',"scale":%d' % scale)
+
+
+def DB(precision, scale=0, more=""):
+    """A decimal over bytes."""
+    return '{"type":"bytes","logicalType":"decimal","precision":%d,"scale":%d%s}' % (precision, scale, more)
+
+
+def rows_are(place, *want):
+    """The rows of a place, each `KIND DEPTH SIZE NOTE PRECISION SCALE STRING`."""
+    got = say("rows %d" % place)
+    words = [r.split(" ") for r in got[:-1]]
+    assert got[-1] == "end", (SEQUENCES[-1], got)
+    have = [" ".join(w[1:3] + w[4:8] + ([] if w[8] == "-" else [bytes.fromhex(w[8]).decode()])) for w in words]
+    assert have == list(want), (SEQUENCES[-1], have, want)
+
+
+def small(*numbers):
+    return b"".join(n.to_bytes(8, "little") for n in numbers)
+
+
+def spoils(at, data):
+    """Bytes that make the memory not well formed; then they are put back."""
+    old = bytes(Now.machine.memory[at:at + len(data)])
+    poke(at, data)
+    add('"int"', 20)
+    swap(0, '"int"', 20)
+    ask("rows 0", 20)
+    poke(at, old)
+    assert ask("fingerprint 0", None)[0].startswith("ok")
+
+
+def keeps(at, data, place, *rows):
+    """Bytes that leave it well formed: the rows of a place are then these; then the bytes are put back."""
+    old = bytes(Now.machine.memory[at:at + len(data)])
+    poke(at, data)
+    rows_are(place, *rows)
+    assert ask("fingerprint %d" % place, None)[0].startswith("ok")
+    poke(at, old)
+
+
+DECIMALS = [DF("F", 4, 9, 2), DF("G", 4, 10), DB(39, 1), DB(1, 2), '"int"', E("E"), ref("F")]
+# rows: 0 fixed F, 1 fixed G, 2 bytes, 3 bytes, 4 int, 5 enum E, 6 symbol A, 7 symbol B, 8 array, 9 reference F
+DROW = [66 + 34 * i for i in range(10)]
+HIGH = 2 ** 64 - 1
+
+
+def with_decimals(label):
+    seq(label)
+    for t in DECIMALS[:-1]:
+        add(t)
+    add(DECIMALS[-1], (7, 10, 6))
+
+
+def decimals():
+    seq("a decimal that does not fit beside those that do")
+    add(DF("a.F", 4, 9, 2), (1, 1, 3))
+    add(DF("a.G", 4, 10, 2), (2, 2, 6))
+    add(DB(39), (3, 3, 6))
+    add(DB(1000, 999, ',"size":1'), (4, 4, 6))
+    add(DF("a.H", 0, 1), (5, 5, 9))
+    rows_are(0, "fixed 0 4 1 9 2 a.F")
+    rows_are(1, "fixed 0 4 7 0 0 a.G")
+    rows_are(2, "bytes 0 0 1 39 0")
+    rows_are(3, "bytes 0 0 1 1000 999")
+    rows_are(4, "fixed 0 0 7 0 0 a.H")
+    text_of(0, 0, 38, '{"name":"a.F","type":"fixed","size":4}')
+    text_of(1, 0, 38, '{"name":"a.G","type":"fixed","size":4}')
+    text_of(3, 0, 7, '"bytes"')
+    text_of(4, 1, 40, '{"name":"a.H","type":"fixed","size":0}')
+    name(1, 0, "a.G")
+    add(ref("a.G"), (6, 7, 12))
+    add(DF("a.G", 4, 9), 25)
+    full()
+
+    seq("one canonical text and one fingerprint whatever the note, other memory for each")
+    seen, prints = set(), set()
+    for i, (text, row) in enumerate(((DF("F", 1, 2), "fixed 0 1 1 2 0 F"), (DF("F", 1, 3), "fixed 0 1 7 0 0 F"), (F("F", 1), "fixed 0 1 0 0 0 F"), (DF("F", 1, 2, 2), "fixed 0 1 1 2 2 F"), (DF("F", 1, 0), "fixed 0 1 5 0 0 F"),
+                                     (DF("F", 1, 3, 4), "fixed 0 1 6 0 0 F"))):
+        if i == 0:
+            add(text, (1, 1, 1))
+        else:
+            swap(0, text, (1, 1, 1))
+        rows_are(0, row)
+        text_of(0, 0, 36, '{"name":"F","type":"fixed","size":1}')
+        prints.add(ask("fingerprint 0", None)[0])
+        seen.add(Now.digest[0])
+    assert len(prints) == 1 and len(seen) == 6
+    swap(0, DF("F", 1, 4, 4), (1, 1, 1))
+    swap(0, DF("F", 1, HIGH), (1, 1, 1))
+    assert Now.digest[0] in seen
+    swap(0, DF("F", 2, 3), (1, 1, 1))
+    text_of(0, 0, 36, '{"name":"F","type":"fixed","size":2}')
+    assert ask("fingerprint 0", None)[0] not in prints
+
+    seq("sixteen sizes at the limit and one above")
+    for i, m in enumerate(declaration_texts.SIXTEEN, 1):
+        add(DF("L%02d" % i, i, m, m % 3), (2 * i - 1, 2 * i - 1, 6 * i - 3))
+        add(DF("M%02d" % i, i, m + 1, m % 3), (2 * i, 2 * i, 6 * i))
+    for i, m in enumerate(declaration_texts.SIXTEEN, 1):
+        rows_are(2 * i - 2, "fixed 0 %d 1 %d %d L%02d" % (i, m, m % 3, i))
+        rows_are(2 * i - 1, "fixed 0 %d 7 0 0 M%02d" % (i, i))
+    add(DF("N", 1, 3), 22)
+    swap(31, DF("M15", 16, 39), 25)
+    swap(30, DF("L16", 17, 39), (32, 32, 96))
+    rows_are(30, "fixed 0 17 7 0 0 L16")
+
+    seq("sizes 0, 17 and higher")
+    sizes = (0, 17, 18, 256, 257, 2 ** 32, 2 ** 32 + 1, 2 ** 61 + 1, 2 ** 63, HIGH)
+    for i, size in enumerate(sizes):
+        add(DF("L%d" % i, size, 38 if size else 1), (2 * i + 1, 2 * i + 1, 4 * i + 2))
+        add(DF("M%d" % i, size, 39, 39), (2 * i + 2, 2 * i + 2, 4 * i + 4))
+    for i, size in enumerate(sizes):
+        rows_are(2 * i, "fixed 0 %d %s L%d" % (size, "1 38 0" if size else "7 0 0", i))
+        rows_are(2 * i + 1, "fixed 0 %d 7 0 0 M%d" % (size, i))
+    text_of(19, 0, 56, '{"name":"M9","type":"fixed","size":%d}' % HIGH)
+
+    seq("replaced by decimals that fit and do not, references behind")
+    add(DF("F", 2, 5), (1, 1, 1))
+    add(ref("F"), (2, 3, 2))
+    add(DF("G", 2, 4), (3, 4, 3))
+    swap(0, DF("F", 2, 4), (3, 4, 3))
+    rows_are(0, "fixed 0 2 1 4 0 F")
+    swap(0, DF("G", 2, 5), 26, behind=1)
+    swap(0, DF("F", 2, 5, 5), (3, 4, 3))
+    rows_are(0, "fixed 0 2 7 0 0 F")
+    swap(2, DF("F", 2, 5), 25)
+    swap(0, "[%s,%s]" % (plain(DF("F", 0, 1)), plain(DF("G", 2, 5))), 25, behind=2)
+    swap(2, DF("H", 0, 1), (3, 4, 3))
+    swap(0, "[%s,%s]" % (plain(DF("F", 0, 1)), plain(DF("G", 2, 5))), (3, 6, 4))
+    swap(1, '["F",%s]' % DB(99), (3, 7, 4))
+    rows_are(0, "union 0 0 0 0 0", "fixed 1 0 7 0 0 F", "fixed 1 2 7 0 0 G")
+    rows_are(1, "union 0 0 0 0 0", "reference 1 0 0 0 0 F", "bytes 1 0 1 99 0")
+    full()
+
+    seq("in fields, unions, arrays and maps")
+    add(R("a.R", plain(DF("F", 3, 7)), '["null",%s,"F",%s]' % (plain(DF("G", 3, 6, 6)), DB(39, 39)), '{"type":"map","values":{"type":"array","items":%s}}' % plain(DF(".H", 8, 19))), (1, 13, 19))
+    rows_are(0, "record 0 0 0 0 0 a.R", "field 1 0 0 0 0 f0", "fixed 2 3 7 0 0 a.F", "field 1 0 0 0 0 f1", "union 2 0 0 0 0", "null 3 0 0 0 0", "fixed 3 3 1 6 6 a.G", "reference 3 0 0 0 0 a.F", "bytes 3 0 1 39 39",
+             "field 1 0 0 0 0 f2", "map 2 0 0 0 0", "array 3 0 0 0 0", "fixed 4 8 7 0 0 H")
+    for row, n in ((2, "a.F"), (6, "a.G"), (7, "a.F"), (12, "H")):
+        name(0, row, n)
+    text_of(0, 0, 300, '{"name":"a.R","type":"record","fields":[{"name":"f0","type":{"name":"a.F","type":"fixed","size":3}},{"name":"f1","type":["null",{"name":"a.G","type":"fixed","size":3},"a.F","bytes"]},'
+            '{"name":"f2","type":{"type":"map","values":{"type":"array","items":{"name":"H","type":"fixed","size":8}}}}]}')
+    say("fingerprint 0")
+
+    seq("refused all the same where the decimal does not fit")
+    add(DF("F", 1, 3), (1, 1, 1))
+    add(ref("F"), (2, 3, 2))
+    for number, text in ((6, '^{"type":"fixed","size":1,"logicalType":"decimal","precision":3}'), (7, '{"type":"fixed","name":"F^ ","size":1,"logicalType":"decimal","precision":3}'), (8, DF("long", 1, 3)),
+                         (9, DF("~256~", 1, 3)), (17, '^{"type":"fixed","name":"F","logicalType":"decimal","precision":3}'), (18, '{"type":"fixed","name":"F","logicalType":"decimal","precision":3,"size":^-1}'),
+                         (18, '{"type":"fixed","name":"F","logicalType":"decimal","precision":3,"size":^18446744073709551616}'), (19, "[%s,^%s]" % (plain(DF("F", 1, 3)), plain(DF("F", 1, 2))))):
+        add(text, number)
+        swap(0, text, number)
+    add(DF("F", 1, 3), 25)
+    add("[%s,^\"X\"]" % plain(DF("G", 1, 3)), 26)
+    swap(0, DF("F", 1, 2), (2, 3, 2))
+
+    with_decimals("memory: note 7 on bytes")
+    spoils(DROW[2] + 1, b"\7")
+    spoils(DROW[3] + 1, b"\7")
+    keeps(DROW[3] + 1, b"\5", 3, "bytes 0 0 5 0 0")
+    poke(DROW[2] + 18, small(0, 0))
+    poke(DROW[2] + 1, b"\7")
+    ask("rows 2", 20)
+    poke(DROW[2] + 1, b"\6")
+    rows_are(2, "bytes 0 0 6 0 0")
+    spoils(DROW[2] + 1, b"\7")
+
+    with_decimals("memory: bytes have no limit")
+    for p, s in ((1, 1), (39, 39), (1000, 0), (HIGH, 0), (HIGH, HIGH)):
+        keeps(DROW[2] + 18, small(p, s), 2, "bytes 0 0 1 %d %d" % (p, s))
+    spoils(DROW[2] + 18, small(0, 0))
+    spoils(DROW[2] + 18, small(38, 39))
+    spoils(DROW[2] + 10, small(16))
+
+    with_decimals("memory: notes on rows that are no decimals")
+    for row in (4, 5, 6, 8, 9):
+        for note in (b"\1", b"\7"):
+            spoils(DROW[row] + 1, note)
+
+    with_decimals("memory: note 1 on a fixed above its limit")
+    for p, s in ((10, 2), (10, 10), (256 + 9, 2), (2 ** 32 + 9, 2), (HIGH, 2), (HIGH, HIGH)):
+        spoils(DROW[0] + 18, small(p, s))
+    for p, s in ((9, 9), (9, 0), (2, 2), (1, 0)):
+        keeps(DROW[0] + 18, small(p, s), 0, "fixed 0 4 1 %d %d F" % (p, s))
+    spoils(DROW[1] + 1, b"\1")
+    poke(DROW[1] + 18, small(9, 0))
+    ask("rows 0", 20)
+    poke(DROW[1] + 1, b"\1")
+    rows_are(1, "fixed 0 4 1 9 0 G")
+    spoils(DROW[1] + 18, small(10))
+    add(DF("H", 4, 10), None)
+    swap(1, DF("G", 4, 10), None)
+    rows_are(1, "fixed 0 4 7 0 0 G")
+
+    with_decimals("memory: the size of a decimal lowered and raised")
+    for size in (3, 2, 1, 0):
+        spoils(DROW[0] + 10, small(size))
+    for size in (5, 16, 17, 256, 257, 2 ** 32, 2 ** 61, 2 ** 63, HIGH):
+        keeps(DROW[0] + 10, small(size), 0, "fixed 0 %d 1 9 2 F" % size)
+    for size in (0, 1, 3, 5, 16, 17, 2 ** 32, HIGH):
+        keeps(DROW[1] + 10, small(size), 1, "fixed 0 %d 7 0 0 G" % size)
+    poke(DROW[0] + 10, small(5, 11, 11))
+    rows_are(0, "fixed 0 5 1 11 11 F")
+    text_of(0, 0, 36, '{"name":"F","type":"fixed","size":5}')
+    spoils(DROW[0] + 10, small(4))
+    spoils(DROW[0] + 18, small(12))
+    poke(DROW[0] + 10, small(HIGH, 38, 38))
+    rows_are(0, "fixed 0 %d 1 38 38 F" % HIGH)
+    spoils(DROW[0] + 18, small(39))
+    spoils(DROW[0] + 10, small(15))
+    keeps(DROW[0] + 10, small(16), 0, "fixed 0 16 1 38 38 F")
+    add("[]", None)
+    swap(0, DF("F", 4, 10), None)
+
+    with_decimals("memory: note 7 with a precision or a scale, and notes above 7")
+    for p, s in ((10, 0), (9, 0), (1, 0), (0, 1), (HIGH, HIGH)):
+        spoils(DROW[1] + 18, small(p, s))
+    spoils(DROW[0] + 1, b"\7")
+    spoils(DROW[1] + 1, b"\x08")
+    spoils(DROW[1] + 1, b"\xff")
+    for note in (0, 2, 3, 4, 5, 6):
+        keeps(DROW[1] + 1, bytes([note]), 1, "fixed 0 4 %d 0 0 G" % note)
+    poke(DROW[0] + 18, small(0, 0))
+    ask("fingerprint 0", 20)
+    poke(DROW[0] + 1, b"\7")
+    rows_are(0, "fixed 0 4 7 0 0 F")
+    text_of(0, 0, 36, '{"name":"F","type":"fixed","size":4}')
+    swap(0, DF("F", 4, 9, 2), None)
+
+    seq("memory: the limit of each size")
+    add(F("F", 0), (1, 1, 1))
+    for size in list(range(19)) + [2 ** 32 + 1, HIGH]:
+        m = declaration_texts.most(size)
+        poke(67, b"\1")
+        poke(76, small(size, m + 1, 0))
+        ask("rows 0", 20)
+        poke(76, small(size, m, m))
+        if m:
+            rows_are(0, "fixed 0 %d 1 %d %d F" % (size, m, m))
+        else:
+            ask("rows 0", 20)
+        poke(67, b"\7")
+        ask("rows 0", 20) if m else rows_are(0, "fixed 0 0 7 0 0 F")
+        poke(76, small(size, 0, 0))
+        rows_are(0, "fixed 0 %d 7 0 0 F" % size)
+
+    seq("memory spoilt: the precision of a decimal over a fixed of 8, the highest")
+    add('{"type":"fixed","name":"F","size":8,"logicalType":"decimal","precision":5,"scale":2}', (1, 1, 1))
+    spoils(66 + 18, small(HIGH))
+    spoils(66 + 18, small(19))
+    keeps(66 + 18, small(18), 0, "fixed 0 8 1 18 2 F")
+
+    pool = [DF("A", 1, 2), DF("A", 1, 3), DF("A", 16, 38, 38), DF("B", 16, 39), DF("B", 0, 1), F("B", 0), DF("n.A", HIGH, 39), DF("n.A", 2 ** 32 + 1, 38), DF("C", 4, 9, 10), DF("C", 4, 10), DB(39), DB(HIGH, 1), ref("A"), ref("B"),
+            '["A","B"]', R("R", '"A"', plain(DF("C", 2, 5))), R("R", plain(DF("C", 2, 4)), '"B"'), "[%s,%s]" % (plain(DF("A", 2, 5)), DB(99)), '{"type":"map","values":%s}' % plain(DF("B", 8, 19)), DF("int", 1, 3),
+            '{"type":"fixed","name":"A","logicalType":"decimal","precision":3}']
+    for seed in range(8):
+        random_calls("random decimals %d" % seed, random.Random("decimals %d" % seed), lambda rng: rng.choice(pool))
+
+
 # ---- a script for people
 
 def short():
@@ -1295,7 +1562,7 @@ def short():
 def write(where):
     os.makedirs(where, exist_ok=True)
     stdin, stdout = "\n".join(LINES) + "\n", "\n".join(ANSWERS) + "\n"
-    assert len(stdin) < 920000 and len(stdout) < 2000000, (len(stdin), len(stdout))
+    assert len(stdin) < 980000 and len(stdout) < 2000000, (len(stdin), len(stdout))
     open(os.path.join(where, "stdin"), "w").write(stdin)
     open(os.path.join(where, "stdout"), "w").write(stdout)
     print(len(SEQUENCES), "sequences,", len(LINES), "lines,", len(stdin), "bytes;", len(ANSWERS), "answers,", len(stdout), "bytes", file=sys.stderr)
@@ -1306,7 +1573,7 @@ def main(args):
         short()
         write(args[1])
         return
-    for part in (first, refusals, names, replaces, limits, order, memories, canonicals, others, random_ones, near_names, breaches):
+    for part in (first, refusals, names, replaces, limits, order, memories, canonicals, others, random_ones, near_names, breaches, decimals):
         part()
     ended()
     if args[0] == "labels":

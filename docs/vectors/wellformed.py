@@ -1,5 +1,6 @@
 #!/usr/bin/env python3
-"""Verdicts of well-formedness, by a decoder written from docs/LAYOUT.md and document 01 alone.
+"""Verdicts of well-formedness, by a decoder written from docs/LAYOUT.md, document 01 and, for a decimal's note 7, request A10 of 02
+alone.
 
     python3 docs/vectors/wellformed.py stdin  > crates/resolve_run/stdin
     python3 docs/vectors/wellformed.py stdout > crates/resolve_run/stdout
@@ -66,7 +67,13 @@ def declarations(mem):
     return out
 
 
-# ---- the rules: document 01
+# ---- the rules: document 01 and, for decimals over fixed, request A10 of 02
+
+def fits(precision, size):
+    """Is 10 to the precision at most 2^(8n - 1) - 1? Above 16 bytes n stays 16; size 0 allows none."""
+    n = min(size, 16)
+    return n > 0 and precision < 8 * n and 10 ** precision <= 2 ** (8 * n - 1) - 1
+
 
 def dotted(s):
     return all(SIMPLE.match(p) for p in s.split(b"."))
@@ -84,9 +91,10 @@ def check_row(r):
         need(s == b"")
     need(r["position"] < 32768)
     need(kind == "fixed" or r["size"] == 0)
-    need(r["note"] <= (6 if kind in ("bytes", "fixed") else 0))
+    need(r["note"] <= {"bytes": 6, "fixed": 7}.get(kind, 0))
     if r["note"] == 1:
         need(r["precision"] >= 1 and r["precision"] >= r["scale"])
+        need(kind == "bytes" or fits(r["precision"], r["size"]))
     else:
         need(r["precision"] == 0 and r["scale"] == 0)
 
@@ -232,7 +240,7 @@ CASES = [
     ("a field of 256 bytes", [[REC, fld(b"n" * 256), INT2]]), ("a primitive with a string", [[R("int", 0, b"x")]]), ("an array with a string", [[R("array", 0, b"x"), INT1]]),
     # numbers
     ("position 32,767", [[R("int", 0, b"", 32767)]]), ("position 32,768", [[R("int", 0, b"", 32768)]]), ("a size on a record", [[R("record", 0, b"R", size=1)]]),
-    ("a fixed of size 0", [[R("fixed", 0, b"F")]]), ("note 6", [[R("bytes", 0, note=6)]]), ("note 7", [[R("bytes", 0, note=7)]]), ("a note on a string", [[R("string", 0, note=2)]]),
+    ("a fixed of size 0", [[R("fixed", 0, b"F")]]), ("note 6", [[R("bytes", 0, note=6)]]), ("note 7 on bytes", [[R("bytes", 0, note=7)]]), ("a note on a string", [[R("string", 0, note=2)]]),
     ("note 1 with precision 0", [[R("bytes", 0, note=1)]]), ("note 1 with scale over precision", [[R("bytes", 0, note=1, precision=4, scale=5)]]),
     ("note 1 with scale as precision", [[R("bytes", 0, note=1, precision=2 ** 64 - 1, scale=2 ** 64 - 1)]]), ("note 2 with a precision", [[R("fixed", 0, b"F", note=2, precision=4)]]),
     ("note 0 with a precision", [[R("fixed", 0, b"F", precision=4)]]), ("note 0 with a scale", [[R("bytes", 0, scale=4)]]),
@@ -275,6 +283,107 @@ def store(mem):
     return out
 
 
+# ---- decimals: request A10. A set is stored, and single rows of it are changed: each verdict was worked out by hand, in a loop
+
+SIXTEEN = [2, 4, 6, 9, 11, 14, 16, 18, 21, 23, 26, 28, 31, 33, 35, 38]
+HIGH = 2 ** 64 - 1
+# a row of each kind
+KINDS_SET = [
+    [R("fixed", 0, b"F", 1, size=4)],
+    [R("record", 0, b"R", 2), R("alias", 1, b"Q", 3), R("field", 1, b"x", 4), R("field alias", 2, b"y", 5), R("union", 2, b"", 6), R("null", 3), R("boolean", 3), R("int", 3), R("long", 3), R("float", 3), R("double", 3),
+     R("bytes", 3), R("string", 3), R("reference", 3, b"F"), R("array", 3), R("map", 4), R("enum", 5, b"E"), R("symbol", 6, b"A")]]
+assert sorted(r[0] for d in KINDS_SET for r in d) == sorted(NUMBERS)
+# decimals at their limits; the changes of each byte of their numbers go to both sides
+LIMIT_SET = [
+    [R("fixed", 0, b"A", size=0, note=7)], [R("fixed", 0, b"B", size=1, note=1, precision=2, scale=2)], [R("fixed", 0, b"C", size=2, note=1, precision=3)], [R("fixed", 0, b"D", size=16, note=1, precision=38, scale=38)],
+    [R("fixed", 0, b"E", size=17, note=1, precision=38)], [R("fixed", 0, b"F", size=HIGH, note=7)], [R("bytes", 0, note=1, precision=39, scale=1)], [R("bytes", 0, note=6)], [R("fixed", 0, b"G", size=4, note=1, precision=9, scale=4)]]
+
+
+def most(size):
+    """The most digits of a decimal over a fixed, by 02's sixteen numbers."""
+    return 0 if size == 0 else 38 if size > 16 else SIXTEEN[size - 1]
+
+
+def decimals():
+    """Commands, printed lines."""
+    commands, printed = [], []
+
+    def started(ds):
+        commands.extend(["c"] + store(encode(ds)))
+        return encode(ds)
+
+    def written(mem, at, data):
+        """What changes is stored, from the first byte to the last."""
+        other = [i for i, b in enumerate(data) if mem[at + i] != b]
+        if other:
+            commands.append("s%04x%s" % (at + other[0], data[other[0]:other[-1] + 1].hex()))
+        mem[at:at + len(data)] = data
+
+    def judged(mem, want):
+        assert well_formed(mem) == want, (commands[-4:], want)
+        commands.append("j%04x" % LENGTH)
+        return "%d" % want
+
+    def line(digits):
+        commands.append("n")
+        printed.append("".join(digits))
+
+    # each note on each kind: with precision 0; note 1 with precision 1, too
+    mem = started(KINDS_SET)
+    for i, kind in enumerate(r[0] for d in KINDS_SET for r in d):
+        out, at = [], ROWS + ROW * i
+        for note in (0, 1, 2, 3, 4, 5, 6, 7, 8, 255):
+            written(mem, at + 1, bytes([note]))
+            out.append(judged(mem, note == 0 or (kind == "fixed" and 2 <= note <= 7) or (kind == "bytes" and 2 <= note <= 6)))
+        written(mem, at + 1, b"\1")
+        written(mem, at + 18, b"\1")
+        out.append(judged(mem, kind in ("fixed", "bytes")))
+        written(mem, at + 1, b"\0")
+        written(mem, at + 18, b"\0")
+        line(out)
+    # a fixed alone
+    mem = started([[R("fixed", 0, b"F")]])
+
+    def numbers(note, size, precision, scale, want):
+        written(mem, ROWS + 1, bytes([note]))
+        written(mem, ROWS + 10, struct.pack("<QQQ", size, precision, scale))
+        return judged(mem, want)
+
+    # note 1 at the limit and one above, without scale and with all of it
+    for size in list(range(19)) + [256, 257, 2 ** 32, 2 ** 32 + 1, 2 ** 61 + 1, 2 ** 63, HIGH]:
+        m = most(size)
+        line([numbers(1, size, m, 0, m > 0), numbers(1, size, m, m, m > 0), numbers(1, size, m + 1, 0, False), numbers(1, size, m + 1, m + 1, False)])
+    # other precisions; note 7 at several sizes; note 7 with a number kept
+    line([numbers(1, 16, p, 0, p == 38) for p in (38, 39, 256 + 38, 2 ** 32 + 38, 2 ** 63 + 38, HIGH)] + [numbers(1, 8, p, s, w) for p, s, w in ((18, 19, False), (17, 18, False), (1, 0, True), (0, 0, False), (HIGH, HIGH, False))])
+    line([numbers(7, size, 0, 0, True) for size in (0, 1, 2, 4, 8, 15, 16, 17, 256, 2 ** 32, 2 ** 63, HIGH)])
+    line([numbers(7, size, p, s, False) for size in (0, 1, 16, HIGH) for p, s in ((most(size) + 1, 0), (1, 0), (0, 1), (most(size) + 1, 1), (HIGH, HIGH))])
+    line([numbers(note, size, most(size), 0, False) for size in (1, 16, HIGH) for note in (0, 2, 3, 4, 5, 6, 8, 255)])
+    # bytes alone: no limit
+    mem = started([[R("bytes", 0)]])
+    line([numbers(note, size, p, s, w) for note, size, p, s, w in (
+        (1, 0, 39, 0, True), (1, 0, 39, 39, True), (1, 0, 1000, 1, True), (1, 0, HIGH, 0, True), (1, 0, HIGH, HIGH, True), (1, 0, 1, 0, True), (1, 1, 1, 0, False), (1, 16, 39, 0, False), (7, 0, 0, 0, False), (7, 0, 39, 0, False),
+        (7, 1, 0, 0, False), (6, 0, 0, 0, True), (6, 0, 39, 0, False))])
+    # the set of limits, the note and the numbers of each row damaged
+    mem = started(LIMIT_SET)
+    for i in range(len(LIMIT_SET)):
+        for at, n in ((ROWS + ROW * i + 1, 1), (ROWS + ROW * i + 10, 24)):
+            commands.append("d%04x%04x" % (at, n))
+            printed.append(damaged(mem, at, n))
+    return commands, printed
+
+
+def damaged(mem, at, n):
+    """The verdicts of the command d."""
+    out = []
+    for i in range(at, at + n):
+        old = mem[i]
+        for new in ((old + 1) % 256, (old - 1) % 256, old ^ 128):
+            mem[i] = new
+            out.append("%d" % well_formed(mem))
+        mem[i] = old
+    return "".join(out)
+
+
 def main(which):
     commands, printed = [], []
     line = []
@@ -297,14 +406,9 @@ def main(which):
     ranges = [(0, 66)] + [(ROWS + ROW * i, ROW) for i in range(rows + 1)] + [(STRINGS - 4, text + 8), (LENGTH - 4, 4)]
     for at, n in ranges:
         commands.append("d%04x%04x" % (at, n))
-        out = []
-        for i in range(at, at + n):
-            old = mem[i]
-            for new in ((old + 1) % 256, (old - 1) % 256, old ^ 128):
-                mem[i] = new
-                out.append("%d" % well_formed(mem))
-            mem[i] = old
-        printed.append("".join(out))
+        printed.append(damaged(mem, at, n))
+    for whole, more in zip((commands, printed), decimals()):
+        whole += more
     lines = commands if which == "stdin" else printed
     sys.stdout.write("\n".join(lines) + "\n")
 

@@ -3,16 +3,18 @@
 use mathlib.Core.Path.{_≡_, sym, _∙_}
 use mathlib.Core.Bool.{true}
 use mathlib.Core.List.{List, [], _∷_, _++_}
-use Prim.Native.Nat.{ℕ, _<_, _≤_}
+use Prim.Native.Nat.{ℕ, _^_, _<_, _≤_}
 use lib.ListN.{length, take}
 use Rattle.answer.specs.declared.counts.Counts.{Counts}
 use Rattle.answer.specs.declared.refusal.Why.the-variants.{NotAName, NoSuchPlace}
 use Rattle.answer.specs.declared.refusal.Refusal.{Refusal}
 use Rattle.answer.specs.declared.Answer.the-variants.{Done, Refused}
+use Rattle.decimals.specs.Limits.{largestNumber}
 use Rattle.row.specs.Layout.{layoutLength}
 use Rattle.row.specs.Rows.{Row}
 use Rattle.row.specs.Sets.{decode}
 use Rattle.row.specs.Memory.{setCounts}
+use Rattle.row.specs.declared.kind.Kind.the-variants.{Fixed}
 use Rattle.resolve.specs.WellFormed.{wellFormed}
 use Rattle.resolve.proofs.Laws.{exact}
 use Rattle.set.specs.Lists.{Result}
@@ -30,7 +32,8 @@ use Rattle.demands.proofs.Holding.{refused-refuses, refused-leaves, add
 use Rattle.demands.proofs.Joined.{accepts-only, accepts-if}
 use Rattle.demands.proofs.Staying.{added-front, replaced-front, replace-later}
 use Rattle.demands.proofs.Letter.{put-tells, addition-tells}
-use Rattle.demands.proofs.Named.{full-formed, name-of, nameless-if, nameless-only, nameless-said, calls-agree}
+use Rattle.demands.proofs.Named.{full-formed, name-of, nameless-if, nameless-only, nameless-said, calls-agree, set-row}
+use Rattle.demands.proofs.Fitting.{row-fits}
 
 -- ---- DEMAND 1: each public result is described fully, refusal or not, together with the lent bytes afterwards
 
@@ -147,6 +150,11 @@ replace-tells m place text = put-tells text place m
 -- there is one such place for a string
 pub told-once : (t : List ℕ) (r : Rule) (quote p q : ℕ) → byteAt t quote ≡ 34 → BreaksAt (keepsOf r) t quote p → BreaksAt (keepsOf r) t quote q → p ≡ q
 told-once t r quote p q o a b = one (breaks-there (lettered r) t quote o p a) (breaks-there (lettered r) t quote o q b)
+
+-- ---- DECIMALS: over a fixed a decimal that holds, note 1, fits: 10 to its precision does not exceed the largest number of that many bytes
+
+pub decimals-fit : (m : List ℕ) → wellFormed m ≡ true → {place i : ℕ} {rows : List Row} {r : Row} → At (decode m) place rows → At rows i r → r .kind ≡ Fixed → r .note ≡ 1 → 10 ^ (r .precision) ≤ largestNumber (r .size)
+decimals-fit m wf a b k n = let z = set-row (exact m wf .1 .declarations) a b in row-fits _ (z .0) (z .1) k n
 
 -- ---- NAMES: the full name of a row, by place and row number there from 0
 

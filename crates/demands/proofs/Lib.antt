@@ -8,3 +8,4 @@ mod Joined
 mod Staying
 mod Named
 mod Letter
+mod Fitting

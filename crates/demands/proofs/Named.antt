@@ -49,15 +49,19 @@ row-text r rest e =
     let b = and-true (goodText (r .kind) (r .text) && goodNumbers r) (goodParts r rest) (a .0) in
     and-true (goodText (r .kind) (r .text)) (goodNumbers r) (b .0) .0
 
-rows-text : {rows : List Row} {i : ℕ} {r : Row} → goodRows rows ≡ true → At rows i r → goodText (r .kind) (r .text) ≡ true
+-- a row of a good set is a good row, with the rows behind it
+rows-good : {rows : List Row} {i : ℕ} {r : Row} → goodRows rows ≡ true → At rows i r → (rest : List Row) × (goodRow r rest ≡ true)
 unfolding goodRows
-rows-text g (first {x} {xs}) = row-text x xs (and-true (goodRow x xs) (goodRows xs) g .0)
-rows-text g (behind {y} {xs} a) = rows-text (and-true (goodRow y xs) (goodRows xs) g .1) a
+rows-good g (first {x} {xs}) = (xs, and-true (goodRow x xs) (goodRows xs) g .0)
+rows-good g (behind {y} {xs} a) = rows-good (and-true (goodRow y xs) (goodRows xs) g .1) a
 
 set-rows : {ds : List (List Row)} {place : ℕ} {rows : List Row} → every isDeclaration ds ≡ true → At ds place rows → goodRows rows ≡ true
 unfolding every
 set-rows g (first {x} {xs}) = declaration-first x (and-true (isDeclaration x) (every isDeclaration xs) g .0) .good
 set-rows g (behind {y} {xs} a) = set-rows (and-true (isDeclaration y) (every isDeclaration xs) g .1) a
+
+pub set-row : {ds : List (List Row)} {place i : ℕ} {rows : List Row} {r : Row} → every isDeclaration ds ≡ true → At ds place rows → At rows i r → (rest : List Row) × (goodRow r rest ≡ true)
+set-row g a b = rows-good (set-rows g a) b
 
 -- ---- the name of a row, by its place
 
@@ -118,7 +122,7 @@ some-not s p q = never (sym p ∙ ap isEmpty q)
 module _ (ds : List (List Row)) (g : every isDeclaration ds ≡ true) (place i : ℕ) (e : nameIn ds place i ≡ []) where
   of-row : {rows : List Row} {r : Row} → At ds place rows → At rows i r → (b : Bool) → hasFullName (r .kind) ≡ b → Nameless ds place i
   of-row {r = r} a b false h = no-name a b h
-  of-row {r = r} a b true h = some-not (r .text) (text-some (r .kind) (r .text) h (rows-text (set-rows g a) b)) (sym (name-at a b ∙ rw h) ∙ e)
+  of-row {r = r} a b true h = some-not (r .text) (let z = set-row g a b in text-some (r .kind) (r .text) h (row-text r (z .0) (z .1))) (sym (name-at a b ∙ rw h) ∙ e)
 
   of-rows : {rows : List Row} → At ds place rows → Spot rows i → Nameless ds place i
   of-rows a (past h) = no-row a h

@@ -17,6 +17,7 @@ pub use names::definition;
 pub use names::reference;
 pub use names::simple_check;
 pub use note::Note;
+pub use note::Plain;
 pub use note::decimal_note;
 pub use spots::all_texts;
 pub use spots::as_array;

@@ -1,12 +1,13 @@
 // A decimal's note, precision and scale.
 use super::spots::as_text;
+use decimals::limit;
 use view::Members;
 use view::Size;
 use view::Spot;
 use view::size_literal;
 use view::string_is;
 ghost use mathlib.Core.Path.{_≡_};
-ghost use Rattle.form.specs.Notes.{noted, compared, withScale, withPrecision, isDecimal, noteOf};
+ghost use Rattle.form.specs.Notes.{noted, exceeds, compared, withScale, withPrecision, isDecimal, noteOf};
 ghost use Rattle.view.specs.Known.{Known};
 
 // The note, 0 where there is no decimal; precision and scale where it is 1.
@@ -14,6 +15,12 @@ pub struct Note {
     pub note: u8,
     pub precision: u64,
     pub scale: u64,
+}
+
+// The type that is left where no decimal holds: bytes, or a fixed with its size.
+pub enum Plain {
+    Bytes,
+    Fixed(u64),
 }
 
 fn noted(note: u8) -> Note
@@ -26,14 +33,26 @@ fn noted(note: u8) -> Note
     }
 }
 
-fn compared(precision: u64, scale: u64) -> Note
-    ensures { λ r. ⌜ r ≡ compared precision scale ⌝ }
+fn exceeds(plain: Plain, precision: u64) -> bool
+    ensures { λ r. ⌜ r ≡ exceeds plain precision ⌝ }
+{
+    match plain {
+        Plain::Bytes => false,
+        Plain::Fixed(size) => limit(size) < precision,
+    }
+}
+
+fn compared(plain: Plain, precision: u64, scale: u64) -> Note
+    ensures { λ r. ⌜ r ≡ compared plain precision scale ⌝ }
 {
     if precision == 0 {
         return noted(5);
     }
     if precision < scale {
         return noted(6);
+    }
+    if exceeds(plain, precision) {
+        return noted(7);
     }
     Note {
         note: 1,
@@ -42,28 +61,28 @@ fn compared(precision: u64, scale: u64) -> Note
     }
 }
 
-fn with_scale(text: &[u8], members: Members, precision: u64) -> Note
-    ensures { λ r. ⌜ r ≡ withScale (now (text .entry)) members precision ⌝ }
+fn with_scale(text: &[u8], members: Members, plain: Plain, precision: u64) -> Note
+    ensures { λ r. ⌜ r ≡ withScale (now (text .entry)) members plain precision ⌝ }
 {
     let spot = members.scale;
     let Spot::At(p) = spot else {
-        return compared(precision, 0);
+        return compared(plain, precision, 0);
     };
     match size_literal(text, p) {
-        Size::Value(scale) => compared(precision, scale),
+        Size::Value(scale) => compared(plain, precision, scale),
         Size::NoSize => noted(4),
     }
 }
 
-fn with_precision(text: &[u8], members: Members) -> Note
-    ensures { λ r. ⌜ r ≡ withPrecision (now (text .entry)) members ⌝ }
+fn with_precision(text: &[u8], members: Members, plain: Plain) -> Note
+    ensures { λ r. ⌜ r ≡ withPrecision (now (text .entry)) members plain ⌝ }
 {
     let spot = members.precision;
     let Spot::At(p) = spot else {
         return noted(2);
     };
     match size_literal(text, p) {
-        Size::Value(precision) => with_scale(text, members, precision),
+        Size::Value(precision) => with_scale(text, members, plain, precision),
         Size::NoSize => noted(3),
     }
 }
@@ -80,12 +99,12 @@ fn is_decimal(text: &[u8], ends: &[u16], members: Members) -> bool
 }
 
 // The note of the object with these members, whose own `type` is the string `bytes` or `fixed`.
-pub fn decimal_note(text: &[u8], ends: &[u16], members: Members) -> Note
+pub fn decimal_note(text: &[u8], ends: &[u16], members: Members, plain: Plain) -> Note
     requires { ⌜ Known (now text) (now ends) ⌝ }
-    ensures { λ r. ⌜ r ≡ noteOf (now (text .entry)) members ⌝ }
+    ensures { λ r. ⌜ r ≡ noteOf (now (text .entry)) members plain ⌝ }
 {
     if is_decimal(text, ends, members) {
-        return with_precision(text, members);
+        return with_precision(text, members, plain);
     }
     noted(0)
 }

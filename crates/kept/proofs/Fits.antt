@@ -12,7 +12,7 @@ use Rattle.name.specs.Name.{every, isEmpty}
 use Rattle.row.specs.Kinds.{kindNumber}
 use Rattle.row.specs.Rows.{Row}
 use Rattle.row.specs.declared.kind.Kind.{Kind}
-use Rattle.row.specs.declared.kind.Kind.the-variants.{Null, Boolean, Int, Long, Float, Double, Bytes, String, Reference, Array, Map, Field, Alias, FieldAlias}
+use Rattle.row.specs.declared.kind.Kind.the-variants.{Null, Boolean, Int, Long, Float, Double, Bytes, String, Reference, Array, Map, Fixed, Field, Alias, FieldAlias}
 use Rattle.row.proofs.RowLaws.{one-kind}
 use Rattle.form.specs.Forms.{wordKind}
 use Rattle.resolve.specs.Kinds.{isKind, isPrimitive, isDefinition, isNamed, isSchema, isAliasOf, hasOne, isPartOf, past, bodyFits, partsFit}
@@ -31,6 +31,11 @@ kind-not test j k f e = go (isKind j k) refl
     go : (b : Bool) → isKind j k ≡ b → b ≡ false
     go true q = never (sym f ∙ ap test (sym (kind-is j k q)) ∙ e)
     go false q = refl
+
+-- what has no name is no fixed
+pub unnamed-fixed : (k : Kind) → isNamed k ≡ false → isKind Fixed k ≡ false
+unfolding isNamed isDefinition isKind
+unnamed-fixed k e = kind-not (λ (x : Kind). not (isNamed x)) Fixed k refl (ap not e)
 
 -- ---- primitives
 

@@ -23,6 +23,7 @@ use Rattle.form.specs.declared.forms.Form.{Form}
 use Rattle.form.specs.Checks.{fault, must, _then_, eachOf}
 use Rattle.form.specs.Spots.{onSpot, isText, asText, asArray, aliasesIn, fieldsIn}
 use Rattle.form.specs.Names.{simpleCheck}
+use Rattle.form.specs.declared.note.Plain.the-variants as over
 use Rattle.form.specs.Notes.{noted, noteOf}
 use Rattle.rules.specs.Fields.{fieldNameAt, fieldName, takenBy, fieldNamesCheck}
 use Rattle.rules.specs.Symbols.{symbolsNew, symbolsCheck, defaultCheck}
@@ -196,5 +197,5 @@ module _ (t : List ℕ) (short : length t ≤ 32768) where
         let s = spot-read (m .size) _ _ e in
         let v = size-read (sizeOf t (s .place)) _ _ (s .reads) in
         let small = size-small t (s .place) (v .size) (v .value) in
-        definition-schema t short a good f Fixed fixed-defines d p m (v .size) (noteOf t m) _
-        (λ q x h. fixed-numbers d q x (v .size) (noteOf t m) h small (note-good t m)) fixed-body heads (v .reads)
+        definition-schema t short a good f Fixed fixed-defines d p m (v .size) (noteOf t m (over.Fixed (v .size))) _
+        (λ q x h. fixed-numbers d q x (v .size) (noteOf t m (over.Fixed (v .size))) h small (note-good t m (over.Fixed (v .size)))) fixed-body heads (v .reads)

@@ -25,6 +25,7 @@ use Rattle.form.specs.declared.note.Note.{Note}
 use Rattle.form.specs.Spots.{onSpot, asText, aliasesIn}
 use Rattle.form.specs.Names.{fullAt, referenceCheck, definedAt, definitionCheck}
 use Rattle.form.specs.Forms.{wordKind}
+use Rattle.form.specs.declared.note.Plain.the-variants as over
 use Rattle.form.specs.Notes.{noted, noteOf}
 use Rattle.rules.specs.Unions.{unnamed, called, wordHead, definitionHead, headOf, unionCheck}
 use Rattle.schema.specs.Out.{Out, refused, read, each}
@@ -36,7 +37,7 @@ use Rattle.kept.proofs.Forest.{Rows, good-row, rows-none, rows-append, 
 use Rattle.kept.proofs.Passed.{after-read, rows-read, both-read, spot-read, read-same}
 use Rattle.kept.proofs.Numbers.{Noted, noted-plain, note-good, numbers-good, plain-numbers}
 use Rattle.kept.proofs.Texts.{reference-named, reference-text, definition-free, own-namespace, free-text, word-within}
-use Rattle.kept.proofs.Fits.{kind-is, primitive-plain, parts-fit, definition-alias, Single}
+use Rattle.kept.proofs.Fits.{kind-is, primitive-plain, unnamed-fixed, parts-fit, definition-alias, Single}
 use Rattle.kept.proofs.Meets.{rowHead, head-named, head-unnamed}
 use Rattle.kept.proofs.Leaves.{aliases-rows, aliases-kind}
 
@@ -161,26 +162,26 @@ module _ (t : List ℕ) (short : length t ≤ 32768) (a : Around) (good : isName
         (rw he (y .0))
         (he ∙ sym (heads ∙ ha)))
 
-    primitive-note : (k : Kind) → Noted (cond (eqb (kindNumber k) (kindNumber Bytes)) (onSpot o (λ p. noteOf t (membersOf t p)) (noted 0)) (noted 0))
+    primitive-note : (k : Kind) → Noted over.Bytes (cond (eqb (kindNumber k) (kindNumber Bytes)) (onSpot o (λ p. noteOf t (membersOf t p) over.Bytes) (noted 0)) (noted 0))
     primitive-note k = go (eqb (kindNumber k) (kindNumber Bytes)) o
       where
-        go : (b : Bool) (s : Spot) → Noted (cond b (onSpot s (λ p. noteOf t (membersOf t p)) (noted 0)) (noted 0))
-        go true (At p) = note-good t (membersOf t p)
-        go true Nowhere = noted-plain 0 (omega arith) (λ (z : 0 ≡ 1). omega arith)
-        go false s = noted-plain 0 (omega arith) (λ (z : 0 ≡ 1). omega arith)
+        go : (b : Bool) (s : Spot) → Noted over.Bytes (cond b (onSpot s (λ p. noteOf t (membersOf t p) over.Bytes) (noted 0)) (noted 0))
+        go true (At p) = note-good t (membersOf t p) over.Bytes
+        go true Nowhere = noted-plain over.Bytes 0 (omega arith) (λ (z : 0 ≡ 1). omega arith)
+        go false s = noted-plain over.Bytes 0 (omega arith) (λ (z : 0 ≡ 1). omega arith)
 
     primitive-schema : isKind Reference (wordKind (stringAt t q)) ≡ false → {rs : List Row} → primitiveRows t a d (wordKind (stringAt t q)) q o ≡ read rs → Schema t a d f rs
     unfolding primitiveRows isKind kindsAt
     primitive-schema r e =
         let k = wordKind (stringAt t q) in
-        let n = cond (eqb (kindNumber k) (kindNumber Bytes)) (onSpot o (λ p. noteOf t (membersOf t p)) (noted 0)) (noted 0) in
+        let n = cond (eqb (kindNumber k) (kindNumber Bytes)) (onSpot o (λ p. noteOf t (membersOf t p) over.Bytes) (noted 0)) (noted 0) in
         let y = after-read (unionCheck t (a .namespace) (a .standing) (unnamed k)) _ e in
         let pl = primitive-plain (stringAt t q) r in
         let wi = word-within t q r in
         let he = head-unnamed (rowWith k d q [] 0 n) (pl .unnamed) in
         let ha : wordHead t (a .namespace) q k ≡ unnamed k = rw r in
         rw (sym (read-same (y .1)))
-        (schema-tree t a f k d q [] 0 n (pl .schema) wi (pl .text) (numbers-good k d q [] n (omega arith) (primitive-note k) (λ h. rw h)) rows-none (pl .parts) (two-nil (clash k d))
+        (schema-tree t a f k d q [] 0 n (pl .schema) wi (pl .text) (numbers-good k d q [] n (omega arith) (primitive-note k) (unnamed-fixed k (pl .unnamed)) (λ h. rw h)) rows-none (pl .parts) (two-nil (clash k d))
         (rw he (y .0))
         (he ∙ sym (heads ∙ ha)))
 

@@ -15,7 +15,8 @@ use Rattle.row.specs.Kinds.{kindNumber}
 use Rattle.row.specs.declared.kind.Kind.{Kind}
 use Rattle.row.specs.declared.kind.Kind.the-variants.{Union, Record, Enum, Field, Symbol, Alias, FieldAlias}
 use Rattle.resolve.specs.Kinds.{isKind, isPrimitive, isDefinition, isNamed, isSchema, isAliasOf, hasOne, isPartOf, past, bodyFits, partsFit}
-use Rattle.resolve.specs.Rules.{goodText, goodSize, goodNote, goodDecimal, goodNumbers, under, kindsAt, goodParts, noClash, goodRow, goodRows, climbs, isDeclaration}
+use Rattle.resolve.proofs.Laws.{numbered}
+use Rattle.resolve.specs.Rules.{goodText, goodSize, goodNumbers, under, kindsAt, goodParts, noClash, goodRow, goodRows, climbs, isDeclaration}
 use Rattle.canonical.specs.Canonical.{isWritten, startsAt, partsOf}
 
 -- ---- the rows under a row
@@ -163,13 +164,6 @@ pub record Good (r : Row) (rows : List Row) : Type 0 where
   pub fit : bodyFits (r .kind) kinds ≡ true
   pub parts : Starts (length rows) (r .depth + 1) kinds (partsOf (r .depth) rows)
 
-numbers-size : (r : Row) → goodNumbers r ≡ true → goodSize (r .kind) (r .size) ≡ true
-unfolding goodNumbers
-numbers-size r e =
-    let z = and-true (ltb (r .position) 32768 && goodSize (r .kind) (r .size) && goodNote (r .kind) (r .note)) (goodDecimal (r .note) (r .precision) (r .scale)) e in
-    let y = and-true (ltb (r .position) 32768 && goodSize (r .kind) (r .size)) (goodNote (r .kind) (r .note)) (z .0) in
-    and-true (ltb (r .position) 32768) (goodSize (r .kind) (r .size)) (y .0) .1
-
 pub good-row : (r : Row) (rows : List Row) → goodRows (r ∷ rows) ≡ true → Good r rows
 unfolding goodRows goodRow goodParts partsOf
 good-row r rows e =
@@ -180,7 +174,7 @@ good-row r rows e =
     let below = under (r .depth) rows in
     record {
       text = w .0;
-      size = numbers-size r (w .1);
+      size = numbered r (w .1) .size;
       kinds = written (kindsAt (r .depth + 1) below);
       fit = fit-written (r .kind) (kindsAt (r .depth + 1) below) (x .1);
       parts = starts (length rows) (r .depth + 1) below (good-under (r .depth) rows (z .1)) (length-under (r .depth) rows);

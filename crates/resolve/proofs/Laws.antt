@@ -19,14 +19,32 @@ use Rattle.row.proofs.RowLaws.{fit-both, texts-append}
 use Rattle.row.proofs.SetLaws.{flat-append}
 use Rattle.row.proofs.Laws.{decode-encode, encode-none, encoding-true, true-encoding}
 use Rattle.resolve.specs.Kinds.{isKind, isSchema}
-use Rattle.resolve.specs.Rules.{goodText, goodSize, goodNote, goodDecimal, goodNumbers, goodParts, goodRow, goodRows, climbs, isDeclaration}
+use Rattle.resolve.specs.Rules.{goodText, goodSize, goodNote, goodPrecision, goodDecimal, goodNumbers, goodParts, goodRow, goodRows, climbs, isDeclaration}
 use Rattle.resolve.specs.Resolve.{faultIn, orElse, isResolved, resolves}
 use Rattle.resolve.specs.WellFormed.{Good, keepsRules, wellFormed}
 use Rattle.resolve.specs.declared.Resolution.{Resolution}
 use Rattle.resolve.specs.declared.Resolution.the-variants.{Resolved, Faulty}
 use Rattle.resolve.proofs.ResolveLaws.{fault-append}
 
--- ---- the numbers of good rows fit their bytes
+-- ---- the numbers of good rows
+
+pub record Numbered (r : Row) : Type 0 where
+  pub position : r .position < 32768
+  pub size : goodSize (r .kind) (r .size) ≡ true
+  pub note : goodNote (r .kind) (r .note) ≡ true
+  pub precision : goodPrecision (r .kind) (r .size) (r .precision) ≡ true
+  pub decimal : goodDecimal (r .note) (r .precision) (r .scale) ≡ true
+
+pub numbered : (r : Row) → goodNumbers r ≡ true → Numbered r
+unfolding goodNumbers
+numbered r e =
+    let a = and-true _ (goodDecimal (r .note) (r .precision) (r .scale)) e in
+    let b = and-true _ (goodPrecision (r .kind) (r .size) (r .precision)) (a .0) in
+    let c = and-true _ (goodNote (r .kind) (r .note)) (b .0) in
+    let d = and-true (ltb (r .position) 32768) (goodSize (r .kind) (r .size)) (c .0) in
+    record { position = ltb-true _ _ (d .0); size = d .1; note = c .1; precision = b .1; decimal = a .1 }
+
+-- ---- they fit their bytes
 
 size-fits : (k : Kind) (n : ℕ) → goodSize k n ≡ true → n < 2 ^ 64
 unfolding goodSize
@@ -38,11 +56,12 @@ size-fits k n e = go (isKind Fixed k) e
 
 note-fits : (k : Kind) (n : ℕ) → goodNote k n ≡ true → n < 2 ^ 8
 unfolding goodNote
-note-fits k n e = go (isKind Bytes k || isKind Fixed k) e
+note-fits k n e = go (isKind Fixed k) (isKind Bytes k) e
   where
-    go : (b : Bool) → cond b (leb n 6) (eqb n 0) ≡ true → n < 2 ^ 8
-    go true e = omega (arith, leb-true n 6 e)
-    go false e = omega (arith, eqb-true n 0 e)
+    go : (x y : Bool) → cond x (leb n 7) (cond y (leb n 6) (eqb n 0)) ≡ true → n < 2 ^ 8
+    go true y e = omega (arith, leb-true n 7 e)
+    go false true e = omega (arith, leb-true n 6 e)
+    go false false e = omega (arith, eqb-true n 0 e)
 
 decimal-fits : (n p s : ℕ) → goodDecimal n p s ≡ true → (p < 2 ^ 64) × (s < 2 ^ 64)
 unfolding goodDecimal
@@ -58,16 +77,14 @@ decimal-fits n p s e = go (eqb n 1) e
         (omega (arith, eqb-true p 0 (a .0)), omega (arith, eqb-true s 0 (a .1)))
 
 numbers-fit : (r : Row) → goodNumbers r ≡ true → r .depth < 2 ^ 16 → fits r ≡ true
-unfolding goodNumbers fits
+unfolding fits
 numbers-fit r e h =
-    let a = and-true (ltb (r .position) 32768 && goodSize (r .kind) (r .size) && goodNote (r .kind) (r .note)) _ e in
-    let b = and-true (ltb (r .position) 32768 && goodSize (r .kind) (r .size)) _ (a .0) in
-    let c = and-true (ltb (r .position) 32768) _ (b .0) in
-    let p : r .position < 2 ^ 16 = omega (arith, ltb-true (r .position) 32768 (c .0)) in
-    let d = decimal-fits (r .note) (r .precision) (r .scale) (a .1) in
-    rw (lt-ltb (r .depth) (2 ^ 16) h, lt-ltb (r .position) (2 ^ 16) p, lt-ltb (r .size) (2 ^ 64) (size-fits (r .kind) (r .size) (c .1)), lt-ltb (r .note) (2 ^ 8) (note-fits (r .kind) (r .note) (b .1)), lt-ltb (r .precision) (2 ^ 64) (d .0), lt-ltb (r .scale) (2 ^ 64) (d .1))
+    let g = numbered r e in
+    let p : r .position < 2 ^ 16 = omega (arith, g .position) in
+    let d = decimal-fits (r .note) (r .precision) (r .scale) (g .decimal) in
+    rw (lt-ltb (r .depth) (2 ^ 16) h, lt-ltb (r .position) (2 ^ 16) p, lt-ltb (r .size) (2 ^ 64) (size-fits (r .kind) (r .size) (g .size)), lt-ltb (r .note) (2 ^ 8) (note-fits (r .kind) (r .note) (g .note)), lt-ltb (r .precision) (2 ^ 64) (d .0), lt-ltb (r .scale) (2 ^ 64) (d .1))
 
-row-numbers : (r : Row) (rest : List Row) → goodRow r rest ≡ true → goodNumbers r ≡ true
+pub row-numbers : (r : Row) (rest : List Row) → goodRow r rest ≡ true → goodNumbers r ≡ true
 unfolding goodRow
 row-numbers r rest e =
     let a = and-true (goodText (r .kind) (r .text) && goodNumbers r && goodParts r rest) _ e in
@@ -84,7 +101,7 @@ rows-fit d (r ∷ rows) c g h =
     let p = and-true (goodRow r rows) (goodRows rows) g in
     and-intro (fits r) (allFit rows) (numbers-fit r (row-numbers r rows (p .0)) (omega arith)) (rows-fit (r .depth) rows (a .1) (p .1) (omega arith))
 
-declaration-fits : (rows : List Row) → isDeclaration rows ≡ true → length rows ≤ rowLimit → allFit rows ≡ true
+pub declaration-fits : (rows : List Row) → isDeclaration rows ≡ true → length rows ≤ rowLimit → allFit rows ≡ true
 unfolding isDeclaration goodRows allFit
 declaration-fits [] e h = refl
 declaration-fits (r ∷ rows) e h =

@@ -5,6 +5,7 @@ use mathlib.Core.Bool.{Bool, true, false, not, cond, _&&_, _||_}
 use mathlib.Core.List.{List, [], _∷_}
 use lib.Dec.{eqb, leb, ltb}
 use Rattle.ground.specs.Bytes.{same}
+use Rattle.decimals.specs.Limits.{limitOf}
 use Rattle.name.specs.Name.{isEmpty, isSimple, isDotted, isReserved}
 use Rattle.name.specs.Full.{isShort}
 use Rattle.row.specs.Rows.{Row}
@@ -33,8 +34,9 @@ goodText kind text =
 unfoldable pub goodSize : Kind → ℕ → Bool
 goodSize kind size = cond (isKind Fixed kind) (ltb size (2 ^ 64)) (eqb size 0)
 
+-- a decimal's note: of bytes up to 6, of a fixed up to 7
 unfoldable pub goodNote : Kind → ℕ → Bool
-goodNote kind note = cond (isKind Bytes kind || isKind Fixed kind) (leb note 6) (eqb note 0)
+goodNote kind note = cond (isKind Fixed kind) (leb note 7) (cond (isKind Bytes kind) (leb note 6) (eqb note 0))
 
 -- a decimal that holds has a precision of at least 1 and at least the scale
 unfoldable pub goodDecimal : ℕ → ℕ → ℕ → Bool
@@ -43,8 +45,17 @@ goodDecimal note precision scale =
     (leb 1 precision && leb scale precision && ltb precision (2 ^ 64))
     (eqb precision 0 && eqb scale 0)
 
+-- and over a fixed it fits the size
+unfoldable pub goodPrecision : Kind → ℕ → ℕ → Bool
+goodPrecision kind size precision = cond (isKind Fixed kind) (leb precision (limitOf size)) true
+
 unfoldable pub goodNumbers : Row → Bool
-goodNumbers r = ltb (r .position) 32768 && goodSize (r .kind) (r .size) && goodNote (r .kind) (r .note) && goodDecimal (r .note) (r .precision) (r .scale)
+goodNumbers r =
+    ltb (r .position) 32768
+    && goodSize (r .kind) (r .size)
+    && goodNote (r .kind) (r .note)
+    && goodPrecision (r .kind) (r .size) (r .precision)
+    && goodDecimal (r .note) (r .precision) (r .scale)
 
 -- ---- the rows under a row
 

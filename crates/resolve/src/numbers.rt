@@ -1,14 +1,12 @@
 // The numbers that a row keeps, by its kind.
 use crate::kinds::is_kind;
+use decimals::limit;
 use row::Entry;
 use row::Kind;
 ghost use mathlib.Core.Path.{_≡_};
 ghost use mathlib.Core.List.{[]};
-ghost use mathlib.Core.Bool.{_||_};
 ghost use Rattle.row.specs.Rows.{rowOf};
-ghost use Rattle.row.specs.declared.kind.Kind.the-variants.{Bytes, Fixed};
-ghost use Rattle.resolve.specs.Kinds.{isKind};
-ghost use Rattle.resolve.specs.Rules.{goodSize, goodNote, goodDecimal, goodNumbers};
+ghost use Rattle.resolve.specs.Rules.{goodSize, goodNote, goodPrecision, goodDecimal, goodNumbers};
 
 fn good_size(kind: Kind, size: u64) -> bool
     ensures { λ r. ⌜ r ≡ goodSize kind size ⌝ }
@@ -19,22 +17,25 @@ fn good_size(kind: Kind, size: u64) -> bool
     size == 0
 }
 
-fn has_note(kind: Kind) -> bool
-    ensures { λ r. ⌜ r ≡ (isKind Bytes kind || isKind Fixed kind) ⌝ }
-{
-    if is_kind(Kind::Bytes, kind) {
-        return true;
-    }
-    is_kind(Kind::Fixed, kind)
-}
-
 fn good_note(kind: Kind, note: u8) -> bool
     ensures { λ r. ⌜ r ≡ goodNote kind note ⌝ }
 {
-    if has_note(kind) {
+    if is_kind(Kind::Fixed, kind) {
+        return note <= 7;
+    }
+    if is_kind(Kind::Bytes, kind) {
         return note <= 6;
     }
     note == 0
+}
+
+fn good_precision(kind: Kind, size: u64, precision: u64) -> bool
+    ensures { λ r. ⌜ r ≡ goodPrecision kind size precision ⌝ }
+{
+    if is_kind(Kind::Fixed, kind) {
+        return precision <= limit(size);
+    }
+    true
 }
 
 fn good_decimal(note: u8, precision: u64, scale: u64) -> bool
@@ -63,6 +64,9 @@ pub fn good_numbers(e: Entry) -> bool
         return false;
     }
     if !good_note(kind, e.note) {
+        return false;
+    }
+    if !good_precision(kind, e.size, e.precision) {
         return false;
     }
     good_decimal(e.note, e.precision, e.scale)

@@ -27,6 +27,7 @@ use Rattle.rules.specs.declared.standing.Standing.{Standing}
 use Rattle.form.specs.Checks.{fault, _then_}
 use Rattle.form.specs.Spots.{onSpot, asText, asArray, aliasesIn}
 use Rattle.form.specs.Names.{definedAt, definitionCheck}
+use Rattle.form.specs.declared.note.Plain.the-variants as over
 use Rattle.form.specs.Notes.{onSize, noted, noteOf}
 use Rattle.rules.specs.Symbols.{symbolsCheck, defaultCheck}
 use Rattle.rules.specs.Unions.{called, unionCheck}
@@ -137,13 +138,13 @@ enum-then t a d p o = definition-then t a Enum d p o 0 (noted 0) (λ own. symbol
 -- ---- fixeds
 
 fixed-is : (t namespace : List ℕ) (standing : Standing) (d p : ℕ) (o : Members) {v : ℕ} → o .size ≡ At v → {s : Size} → s ≡ sizeOf t v
-    → {size : ℕ} → s ≡ Value size → {note : Note} → note ≡ noteOf t o → fixedRows t (around namespace standing) d p o ≡ andThen (headRows t (around namespace standing) Fixed d p o size note) (read [])
+    → {size : ℕ} → s ≡ Value size → {note : Note} → note ≡ noteOf t o (over.Fixed size) → fixedRows t (around namespace standing) d p o ≡ andThen (headRows t (around namespace standing) Fixed d p o size note) (read [])
 unfolding fixedRows
 fixed-is t namespace standing d p o {v} g {s} h {size} i {note} j =
     let a = around namespace standing in
-    ap (λ (y : Spot). onSpot y (λ v. onSize (sizeOf t v) (λ size. definition t a Fixed d p o size (noteOf t o) (λ own. read [])) (no NotASize v)) (no SizeMissing p)) g
-    ∙ ap (λ (z : Size). onSize z (λ size. definition t a Fixed d p o size (noteOf t o) (λ own. read [])) (no NotASize v)) (sym h ∙ i)
-    ∙ definition-then t a Fixed d p o size (noteOf t o) (λ own. read [])
+    ap (λ (y : Spot). onSpot y (λ v. onSize (sizeOf t v) (λ size. definition t a Fixed d p o size (noteOf t o (over.Fixed size)) (λ own. read [])) (no NotASize v)) (no SizeMissing p)) g
+    ∙ ap (λ (z : Size). onSize z (λ size. definition t a Fixed d p o size (noteOf t o (over.Fixed size)) (λ own. read [])) (no NotASize v)) (sym h ∙ i)
+    ∙ definition-then t a Fixed d p o size (noteOf t o (over.Fixed size)) (λ own. read [])
     ∙ ap (λ (x : Note). andThen (headRows t a Fixed d p o size x) (read [])) (sym j)
 
 module _ (t namespace : List ℕ) (standing : Standing) (d p : ℕ) (o : Members) {m m′ : List ℕ} {c : Counts} where
@@ -156,7 +157,7 @@ module _ (t namespace : List ℕ) (standing : Standing) (d p : ℕ) (o : Members
     unfolding fixedRows
     size-not i = rw (g, ← h, i) (did-bad m m′ c (fault NotASize v))
 
-    module _ {size : ℕ} (i : s ≡ Value size) {note : Note} (j : note ≡ noteOf t o) {buffer full : List ℕ} {r : Defined}
+    module _ {size : ℕ} (i : s ≡ Value size) {note : Note} (j : note ≡ noteOf t o (over.Fixed size)) {buffer full : List ℕ} {r : Defined}
         (k : Titled m c m′ r buffer full (headRows t (around namespace standing) Fixed d p o size note)) where
       pub fixed-bad : {f : Fault} → r ≡ defined.Bad f → Did m c m′ (Bad f) (fixedRows t (around namespace standing) d p o)
       fixed-bad l = did-eq (fixed-is t namespace standing d p o g h i j) (did-end (headRows t (around namespace standing) Fixed d p o size note) (did-untitled _ k l))

@@ -31,6 +31,7 @@ use Rattle.form.specs.Checks.{fault}
 use Rattle.form.specs.Spots.{asText, aliasesIn, fieldsIn}
 use Rattle.form.specs.Names.{simpleCheck, fullAt, referenceCheck, aliasCheck, named}
 use Rattle.form.specs.Forms.{wordKind}
+use Rattle.form.specs.declared.note.Plain.the-variants as over
 use Rattle.form.specs.Notes.{noted, noteOf}
 use Rattle.rules.specs.Fields.{fieldNamesCheck}
 use Rattle.rules.specs.Unions.{called, unnamed, unionCheck}
@@ -108,12 +109,12 @@ module _ (t namespace : List ℕ) (standing : Standing) (d q : ℕ) {m m′ : Li
 
 -- ---- primitives
 
-pub note-bytes : (t : List ℕ) (kind : Kind) (m : Members) {x y : ℕ} {r : Note} → x ≡ kindNumber kind → y ≡ kindNumber Bytes → x ≡ y → r ≡ noteOf t m
-    → r ≡ cond (eqb (kindNumber kind) (kindNumber Bytes)) (noteOf t m) (noted 0)
+pub note-bytes : (t : List ℕ) (kind : Kind) (m : Members) {x y : ℕ} {r : Note} → x ≡ kindNumber kind → y ≡ kindNumber Bytes → x ≡ y → r ≡ noteOf t m over.Bytes
+    → r ≡ cond (eqb (kindNumber kind) (kindNumber Bytes)) (noteOf t m over.Bytes) (noted 0)
 note-bytes t kind m a b e f = f ∙ rw (eq-eqb (kindNumber kind) (kindNumber Bytes) (sym a ∙ e ∙ b)) refl
 
 pub note-other : (t : List ℕ) (kind : Kind) (m : Members) {x y : ℕ} → x ≡ kindNumber kind → y ≡ kindNumber Bytes → (x ≡ y → ⊥)
-    → noted 0 ≡ cond (eqb (kindNumber kind) (kindNumber Bytes)) (noteOf t m) (noted 0)
+    → noted 0 ≡ cond (eqb (kindNumber kind) (kindNumber Bytes)) (noteOf t m over.Bytes) (noted 0)
 note-other t kind m a b e = rw (ne-eqb (kindNumber kind) (kindNumber Bytes) (λ z. e (a ∙ z ∙ sym b))) refl
 
 module _ (t namespace : List ℕ) (standing : Standing) (d : ℕ) (kind : Kind) (q : ℕ) (o : Members) {m m′ : List ℕ} {c : Counts}
@@ -122,7 +123,7 @@ module _ (t namespace : List ℕ) (standing : Standing) (d : ℕ) (kind : Kind) 
   unfolding primitiveWith
   primitive-old g = did-fault (unionCheck t namespace standing (unnamed kind)) _ (sym (e namespace) ∙ g)
 
-  pub primitive-new : {c′ : Counts} {n : Note} → r ≡ check.Fine → n ≡ cond (eqb (kindNumber kind) (kindNumber Bytes)) (noteOf t o) (noted 0)
+  pub primitive-new : {c′ : Counts} {n : Note} → r ≡ check.Fine → n ≡ cond (eqb (kindNumber kind) (kindNumber Bytes)) (noteOf t o over.Bytes) (noted 0)
       → c′ ≡ counted c 0 → m′ ≡ pushed m c (rowWith kind d q [] 0 n) → Did m c m′ (Read c′) (primitiveWith t (around namespace standing) d kind q o)
   unfolding primitiveWith
   primitive-new {c′} {n} g f h i =

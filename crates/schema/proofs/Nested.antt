@@ -42,6 +42,7 @@ use Rattle.form.specs.Checks.{fault}
 use Rattle.form.specs.Spots.{onSpot, isObject, asText, asArray, aliasesIn, objectsAmong, fieldsIn}
 use Rattle.form.specs.Names.{simpleCheck}
 use Rattle.form.specs.Forms.{wordKind, formOf, noMembers, foundOf}
+use Rattle.form.specs.declared.note.Plain.the-variants as over
 use Rattle.form.specs.Notes.{noted, noteOf, isDecimal}
 use Rattle.rules.specs.Fields.{fieldNamesCheck}
 use Rattle.rules.specs.Unions.{unnamed, unionCheck}
@@ -68,7 +69,7 @@ unfolding schemaOf
 by-form zero t a d p n e = absurd (n refl)
 by-form (suc left) t a d p n e = rw (sub-one) (ap (schemaBy (schemaOf left t) t a d) e)
 
-note-in : (t : List ℕ) (o : Spot) → onSpot o (λ p. noteOf t (membersOf t p)) (noted 0) ≡ noteOf t (onSpot o (membersOf t) noMembers)
+note-in : (t : List ℕ) (o : Spot) → onSpot o (λ p. noteOf t (membersOf t p) over.Bytes) (noted 0) ≡ noteOf t (onSpot o (membersOf t) noMembers) over.Bytes
 unfolding noteOf isDecimal asText
 note-in t (At p) = refl
 note-in t Nowhere = refl

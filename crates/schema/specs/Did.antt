@@ -26,6 +26,7 @@ use Rattle.form.specs.Checks.{_then_}
 use Rattle.form.specs.Spots.{onSpot, isObject, asText, asArray, aliasesIn}
 use Rattle.form.specs.Names.{simpleCheck, definedAt, definitionCheck}
 use Rattle.form.specs.Forms.{wordKind}
+use Rattle.form.specs.declared.note.Plain.the-variants as over
 use Rattle.form.specs.Notes.{noted, noteOf}
 use Rattle.rules.specs.Symbols.{symbolsCheck, defaultCheck}
 use Rattle.schema.specs.declared.walked.Walked.{Walked}
@@ -72,7 +73,7 @@ around namespace standing = record { namespace = namespace; standing = standing 
 -- a string, by the members of the object whose `type` it is
 unfoldable pub primitiveWith : List ℕ → Around → ℕ → Kind → ℕ → Members → Out
 primitiveWith t a d kind q m =
-    newKind t a kind (read (rowWith kind d q [] 0 (cond (eqb (kindNumber kind) (kindNumber Bytes)) (noteOf t m) (noted 0)) ∷ []))
+    newKind t a kind (read (rowWith kind d q [] 0 (cond (eqb (kindNumber kind) (kindNumber Bytes)) (noteOf t m over.Bytes) (noted 0)) ∷ []))
 
 unfoldable pub wordWith : List ℕ → Around → ℕ → ℕ → Members → Out
 wordWith t a d q m =

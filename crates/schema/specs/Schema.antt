@@ -23,6 +23,7 @@ use Rattle.view.specs.declared.members.Members.{Members}
 use Rattle.form.specs.declared.forms.Form.{Form}
 use Rattle.form.specs.declared.forms.Form.the-variants as form
 use Rattle.form.specs.declared.note.Note.{Note}
+use Rattle.form.specs.declared.note.Plain.the-variants as over
 use Rattle.rules.specs.declared.standing.Standing.{Standing}
 use Rattle.rules.specs.declared.standing.Standing.the-variants.{Alone, MemberOf}
 use Rattle.form.specs.Checks.{fault, _then_}
@@ -81,7 +82,7 @@ referenceRows t a d q =
 unfoldable pub primitiveRows : List ℕ → Around → ℕ → Kind → ℕ → Spot → Out
 primitiveRows t a d kind q o =
     newKind t a kind
-    (read (rowWith kind d q [] 0 (cond (eqb (kindNumber kind) (kindNumber Bytes)) (onSpot o (λ p. noteOf t (membersOf t p)) (noted 0)) (noted 0)) ∷ []))
+    (read (rowWith kind d q [] 0 (cond (eqb (kindNumber kind) (kindNumber Bytes)) (onSpot o (λ p. noteOf t (membersOf t p) over.Bytes) (noted 0)) (noted 0)) ∷ []))
 
 unfoldable pub wordRows : List ℕ → Around → ℕ → Kind → ℕ → Spot → Out
 wordRows t a d kind q o = cond (eqb (kindNumber kind) (kindNumber Reference)) (referenceRows t a d q) (primitiveRows t a d kind q o)
@@ -153,7 +154,7 @@ enumRows t a d p m =
 unfoldable pub fixedRows : List ℕ → Around → ℕ → ℕ → Members → Out
 fixedRows t a d p m =
     onSpot (m .size)
-    (λ v. onSize (sizeOf t v) (λ size. definition t a Fixed d p m size (noteOf t m) (λ own. read [])) (no NotASize v))
+    (λ v. onSize (sizeOf t v) (λ size. definition t a Fixed d p m size (noteOf t m (over.Fixed size)) (λ own. read [])) (no NotASize v))
     (no SizeMissing p)
 
 -- ---- arrays, maps, unions

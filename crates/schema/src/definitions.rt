@@ -15,6 +15,7 @@ use form::decimal_note;
 use form::first_alias;
 use form::names::definition;
 use form::note::Note;
+use form::note::Plain;
 use name::namespace_part;
 use row::Entry;
 use row::Kind;
@@ -229,7 +230,7 @@ pub(crate) fn put_fixed(
         }),
         Size::Value(size) => {
             let mut full: [u8; 255] = [0; 255];
-            let note = decimal_note(text, ends, members);
+            let note = decimal_note(text, ends, members, Plain::Fixed(size));
             match define(
                 text,
                 ends,

@@ -7,6 +7,7 @@ use form::Check;
 use form::Named;
 use form::decimal_note;
 use form::note::Note;
+use form::note::Plain;
 use form::reference;
 use form::word_kind;
 use row::Kind;
@@ -23,6 +24,7 @@ ghost use lib.ListN.{length};
 ghost use Rattle.row.specs.Kinds.{kindNumber};
 ghost use Rattle.row.specs.declared.kind.Kind.the-variants.{Bytes};
 ghost use Rattle.form.specs.Notes.{noted, noteOf};
+ghost use Rattle.form.specs.declared.note.Plain.the-variants as over;
 ghost use Rattle.schema.specs.Schema.{referenceRows};
 ghost use Rattle.schema.specs.Did.{Did, around, primitiveWith, wordWith};
 ghost use Rattle.view.specs.Known.{Known};
@@ -61,10 +63,10 @@ fn put_reference(
 // Of bytes alone, the decimal's note.
 fn note_of(text: &[u8], ends: &[u16], kind: Kind, members: Members) -> Note
     requires { ⌜ Known (now text) (now ends) ⌝ }
-    ensures { λ r. ⌜ r ≡ cond (eqb (kindNumber kind) (kindNumber Bytes)) (noteOf (now (text .entry)) members) (noted 0) ⌝ }
+    ensures { λ r. ⌜ r ≡ cond (eqb (kindNumber kind) (kindNumber Bytes)) (noteOf (now (text .entry)) members over.Bytes) (noted 0) ⌝ }
 {
     if kind.number() == Kind::Bytes.number() {
-        return decimal_note(text, ends, members);
+        return decimal_note(text, ends, members, Plain::Bytes);
     }
     Note {
         note: 0,

@@ -30,7 +30,7 @@ use Rattle.schema.specs.Did.{Did}
 use Rattle.resolve.specs.Rules.{isDeclaration}
 use Rattle.kept.proofs.Kept.{kept}
 use Rattle.set.specs.Steps.{Drafted, IsDraft, Wrote′, Wrote}
-use Rattle.set.proofs.Fitting.{declaration-fits}
+use Rattle.resolve.proofs.Laws.{declaration-fits}
 
 -- ---- a text that is read
 

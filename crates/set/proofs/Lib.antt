@@ -1,6 +1,5 @@
 mod Places
 mod Appends
-mod Fitting
 mod Drafts
 mod Rests
 mod CallLaws

@@ -32,6 +32,7 @@ use Rattle.form.specs.Checks.{fault, _then_}
 use Rattle.form.specs.Spots.{onSpot, isText, asText, asArray, aliasesIn, fieldsIn}
 use Rattle.form.specs.Names.{simpleCheck, fullAt, referenceCheck, aliasCheck, definedAt, definitionCheck}
 use Rattle.form.specs.Forms.{wordKind, objectForm, formBy, formWithin, formOf}
+use Rattle.form.specs.declared.note.Plain.the-variants as over
 use Rattle.form.specs.Notes.{onSize, noted, noteOf}
 use Rattle.rules.specs.Unions.{called, unnamed, unionCheck}
 use Rattle.rules.specs.Fields.{fieldNamesCheck}
@@ -180,8 +181,8 @@ module _ (t : List ℕ) where
   unfolding fixedRows
   fixed-fair a d p m = spot-fair t (m .size) _ (no SizeMissing p) (λ v _. go v (sizeOf t v)) (other t SizeMissing p refl)
     where
-      go : (v : ℕ) (s : Size) → FairOut t (onSize s (λ size. definition t a Fixed d p m size (noteOf t m) (λ own. read [])) (no NotASize v))
-      go v (Value size) = defined-fair a Fixed d p m size (noteOf t m) (λ own. read []) (λ own. tt)
+      go : (v : ℕ) (s : Size) → FairOut t (onSize s (λ size. definition t a Fixed d p m size (noteOf t m (over.Fixed size)) (λ own. read [])) (no NotASize v))
+      go v (Value size) = defined-fair a Fixed d p m size (noteOf t m (over.Fixed size)) (λ own. read []) (λ own. tt)
       go v NoSize = other t NotASize v refl
 
   -- ---- any schema, by a reader of the schemas in it

@@ -13,14 +13,14 @@ with-precision-requires c κs = search needs
 
 returns : tie.Need-returns
 returns c =
-    note-decimal _ _ (c .before .before .is-decimal .ensures) (c .before .if1 .taken) (c .with-precision .ensures)
+    note-decimal _ _ _ (c .before .before .is-decimal .ensures) (c .before .if1 .taken) (c .with-precision .ensures)
 
 noted-requires : tie.Need-noted-requires
 noted-requires c κs = search needs
 
 returns-2 : tie.Need-returns-2
 returns-2 c =
-    note-plain _ _ (c .before .before .is-decimal .ensures) (c .before .if1 .left) (c .noted .ensures)
+    note-plain _ _ _ (c .before .before .is-decimal .ensures) (c .before .if1 .left) (c .noted .ensures)
 
 pub decimal-note-spec : {M : Type 1} → statement M
 decimal-note-spec =

@@ -15,7 +15,7 @@ noted-requires : tie.Need-noted-requires
 noted-requires c κs = search needs
 
 returns : tie.Need-returns
-returns c = precision-none _ _ (c .before .enum-told .given .1) (c .noted .ensures)
+returns c = precision-none _ _ _ (c .before .enum-told .given .1) (c .noted .ensures)
 
 size-literal-requires : tie.Need-size-literal-requires
 size-literal-requires c κs = search needs
@@ -34,11 +34,11 @@ noted-requires-2 c κs = search needs
 
 returns-2 : tie.Need-returns-2
 returns-2 c =
-    precision-value _ _ (c .before .before .before .before .before .before .spot .given .1) (c .before .before .before .before .size-literal .ensures) (c .before .before .precision .given .1) (c .with-scale .ensures)
+    precision-value _ _ _ (c .before .before .before .before .before .before .spot .given .1) (c .before .before .before .before .size-literal .ensures) (c .before .before .precision .given .1) (c .with-scale .ensures)
 
 returns-3 : tie.Need-returns-3
 returns-3 c =
-    precision-other _ _ (c .before .before .before .before .before .spot .given .1) (c .before .before .before .size-literal .ensures) (c .before .enum-told2 .given .1) (c .noted2 .ensures)
+    precision-other _ _ _ (c .before .before .before .before .before .spot .given .1) (c .before .before .before .size-literal .ensures) (c .before .enum-told2 .given .1) (c .noted2 .ensures)
 
 pub with-precision-spec : {M : Type 1} → statement M
 with-precision-spec =

@@ -15,7 +15,7 @@ compared-requires : tie.Need-compared-requires
 compared-requires c κs = search needs
 
 returns : tie.Need-returns
-returns c = scale-none _ _ _ (c .before .enum-told .given .1) (c .compared .ensures)
+returns c = scale-none _ _ _ _ (c .before .enum-told .given .1) (c .compared .ensures)
 
 size-literal-requires : tie.Need-size-literal-requires
 size-literal-requires c κs = search needs
@@ -34,11 +34,11 @@ noted-requires c κs = search needs
 
 returns-2 : tie.Need-returns-2
 returns-2 c =
-    scale-value _ _ _ (c .before .before .before .before .before .before .spot .given .1) (c .before .before .before .before .size-literal .ensures) (c .before .before .scale .given .1) (c .compared2 .ensures)
+    scale-value _ _ _ _ (c .before .before .before .before .before .before .spot .given .1) (c .before .before .before .before .size-literal .ensures) (c .before .before .scale .given .1) (c .compared2 .ensures)
 
 returns-3 : tie.Need-returns-3
 returns-3 c =
-    scale-other _ _ _ (c .before .before .before .before .before .spot .given .1) (c .before .before .before .size-literal .ensures) (c .before .enum-told2 .given .1) (c .noted .ensures)
+    scale-other _ _ _ _ (c .before .before .before .before .before .spot .given .1) (c .before .before .before .size-literal .ensures) (c .before .enum-told2 .given .1) (c .noted .ensures)
 
 pub with-scale-spec : {M : Type 1} → statement M
 with-scale-spec =

@@ -25,12 +25,19 @@ returns-3 : tie.Need-returns-3
 unfolding goodNumbers
 returns-3 c = rw (lt-ltb _ _ (c .before .before .before .before .if1 .left), sym (c .before .before .before .good-size .ensures) ∙ not-false _ (c .before .before .if2 .left), sym (c .before .good-note .ensures) ∙ not-true _ (c .if3 .taken))
 
-good-decimal-requires : tie.Need-good-decimal-requires
-good-decimal-requires c κs = search needs
+good-precision-requires : tie.Need-good-precision-requires
+good-precision-requires c κs = search needs
 
 returns-4 : tie.Need-returns-4
 unfolding goodNumbers
-returns-4 c = rw (lt-ltb _ _ (c .before .before .before .before .before .if1 .left), sym (c .before .before .before .before .good-size .ensures) ∙ not-false _ (c .before .before .before .if2 .left), sym (c .before .before .good-note .ensures) ∙ not-false _ (c .before .if3 .left)) (c .good-decimal .ensures)
+returns-4 c = rw (lt-ltb _ _ (c .before .before .before .before .before .before .if1 .left), sym (c .before .before .before .before .before .good-size .ensures) ∙ not-false _ (c .before .before .before .before .if2 .left), sym (c .before .before .before .good-note .ensures) ∙ not-false _ (c .before .before .if3 .left), sym (c .before .good-precision .ensures) ∙ not-true _ (c .if4 .taken))
+
+good-decimal-requires : tie.Need-good-decimal-requires
+good-decimal-requires c κs = search needs
+
+returns-5 : tie.Need-returns-5
+unfolding goodNumbers
+returns-5 c = rw (lt-ltb _ _ (c .before .before .before .before .before .before .before .if1 .left), sym (c .before .before .before .before .before .before .good-size .ensures) ∙ not-false _ (c .before .before .before .before .before .if2 .left), sym (c .before .before .before .before .good-note .ensures) ∙ not-false _ (c .before .before .before .if3 .left), sym (c .before .before .good-precision .ensures) ∙ not-false _ (c .before .if4 .left)) (c .good-decimal .ensures)
 
 pub good-numbers-spec : {M : Type 1} → statement M
 good-numbers-spec =
@@ -41,5 +48,7 @@ good-numbers-spec =
     returns-2
     good-note-requires
     returns-3
+    good-precision-requires
+    returns-4
     good-decimal-requires
-    returns-4)
+    returns-5)
