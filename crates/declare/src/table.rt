@@ -4,6 +4,7 @@ use crate::columns::most;
 use crate::columns::put_left;
 use crate::columns::put_right;
 use crate::lines::line;
+use decimals::limit;
 use row::Entry;
 use row::Kind;
 use row::read::read_row;
@@ -47,7 +48,7 @@ fn put_holds(out: &mut [u8], at: usize, row: Entry) -> usize {
     put_decimal(out, c, row.scale)
 }
 
-// Why there is no decimal: line n is that of note n.
+// Why there is no decimal: line n is that of note n, up to 6.
 fn put_reason(out: &mut [u8], at: usize, note: u8) -> usize {
     let all = b"\n\n\
         no decimal, precision missing\n\
@@ -56,6 +57,14 @@ fn put_reason(out: &mut [u8], at: usize, note: u8) -> usize {
         no decimal, precision 0\n\
         no decimal, precision below scale";
     put(out, at, line(all, note as usize))
+}
+
+// The limit that the precision is above.
+fn put_limit(out: &mut [u8], at: usize, size: u64) -> usize {
+    let a = put(out, at, b"no decimal, precision above ");
+    let b = put_decimal(out, a, limit(size));
+    let c = put(out, b, b", the limit of size ");
+    put_decimal(out, c, size)
 }
 
 // The note of a decimal, where there is one.
@@ -68,6 +77,9 @@ fn put_note(out: &mut [u8], at: usize, row: Entry) -> usize {
     let c = put(out, b, b": ");
     if row.note == 1 {
         return put_holds(out, c, row);
+    }
+    if row.note == 7 {
+        return put_limit(out, c, row.size);
     }
     put_reason(out, c, row.note)
 }
