@@ -69,7 +69,7 @@ above-limit n p l h a = lt-of-lt-of-le (limit-largest n l h .no-more) (ten-up (l
 pub within-limit : (n p : ℕ) → 1 ≤ n → n ≤ 16 → p ≤ limitOf n → 10 ^ p ≤ largestNumber n
 within-limit n p l h a = le-trans (ten-up p (limitOf n) a) (limit-largest n l h .fits)
 
--- no bytes hold none
+-- a size of 0 holds none
 pub none-fits : (p : ℕ) → largestNumber 0 < 10 ^ p
 unfolding largestNumber
 none-fits p = one-le-pow p 10 (omega arith)

@@ -17,7 +17,7 @@ pub record Largest (n precision : ℕ) : Type 0 where
 unfoldable pub limits : List ℕ
 limits = 2 ∷ 4 ∷ 6 ∷ 9 ∷ 11 ∷ 14 ∷ 16 ∷ 18 ∷ 21 ∷ 23 ∷ 26 ∷ 28 ∷ 31 ∷ 33 ∷ 35 ∷ 38 ∷ []
 
--- the limit of any size: no bytes allow none, and above 16 it stays 38
+-- the limit of any size: 0 allows none, and above 16 it stays 38
 unfoldable pub limitOf : ℕ → ℕ
 limitOf zero = 0
 limitOf (suc n) = getD limits n 38

@@ -11,7 +11,7 @@ fn wide(digits: u8) -> u64
     digits as u64
 }
 
-// The largest precision of a decimal over a fixed of this size. No bytes allow none; above 16 the limit stays that of 16.
+// The largest precision of a decimal over a fixed of this size. A size of 0 allows none; above 16 the limit stays 38.
 pub fn limit(size: u64) -> u64
     ensures { λ r. ⌜ r ≡ limitOf size ⌝ }
 {

@@ -151,7 +151,7 @@ replace-tells m place text = put-tells text place m
 pub told-once : (t : List ℕ) (r : Rule) (quote p q : ℕ) → byteAt t quote ≡ 34 → BreaksAt (keepsOf r) t quote p → BreaksAt (keepsOf r) t quote q → p ≡ q
 told-once t r quote p q o a b = one (breaks-there (lettered r) t quote o p a) (breaks-there (lettered r) t quote o q b)
 
--- ---- DECIMALS: over a fixed a decimal that holds, note 1, fits: 10 to its precision does not exceed the largest number of that many bytes
+-- ---- DECIMALS: over a fixed of n bytes a decimal that holds, note 1, fits: 10 to its precision does not exceed 2^(8n - 1) - 1
 
 pub decimals-fit : (m : List ℕ) → wellFormed m ≡ true → {place i : ℕ} {rows : List Row} {r : Row} → At (decode m) place rows → At rows i r → r .kind ≡ Fixed → r .note ≡ 1 → 10 ^ (r .precision) ≤ largestNumber (r .size)
 decimals-fit m wf a b k n = let z = set-row (exact m wf .1 .declarations) a b in row-fits _ (z .0) (z .1) k n
