@@ -3,7 +3,7 @@
 -- Assumes nothing.
 use Prim.Native.Nat.{ℕ}
 use mathlib.Core.Bool.{Bool, false, cond}
-use mathlib.Core.List.{List, []}
+use mathlib.Core.List.{List}
 use lib.Dec.{eqb, ltb}
 use Rattle.ground.specs.Ascii.{ascii}
 use Rattle.ground.specs.Bytes.{same}
@@ -35,6 +35,7 @@ unfoldable pub exceeds : Plain → ℕ → Bool
 exceeds Bytes precision = false
 exceeds (Fixed size) precision = ltb (limitOf size) precision
 
+-- once both are known, in this order: 5, 6, 7; what passes holds
 unfoldable pub compared : Plain → ℕ → ℕ → Note
 compared plain precision scale =
     cond (eqb precision 0) (noted 5)

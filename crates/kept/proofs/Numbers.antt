@@ -1,7 +1,7 @@
 -- The numbers of a row: its position, a fixed's size, a decimal's note.
 -- Assumes nothing.
 use mathlib.Core.Path.{_≡_, refl}
-use mathlib.Core.Bool.{Bool, true, false, cond, _&&_, _||_}
+use mathlib.Core.Bool.{Bool, true, false, cond, _&&_}
 use mathlib.Core.List.{List, [], _∷_}
 use Prim.Native.Nat.{ℕ, _+_, _*_, _-_, _^_, _<_, _≤_}
 use native.Mathlib.Omega.{arith}
@@ -29,10 +29,6 @@ use Rattle.form.specs.Notes.{onSize, noted, holds, exceeds, compared, withScale
 use Rattle.schema.specs.Schema.{rowWith}
 use Rattle.resolve.specs.Kinds.{isKind}
 use Rattle.resolve.specs.Rules.{goodSize, goodNote, goodPrecision, goodDecimal, goodNumbers}
-
-either : (b x y : Bool) → x ≡ true → y ≡ true → cond b x y ≡ true
-either true x y p q = p
-either false x y p q = q
 
 -- ---- a size literal lies below 2^64
 

@@ -34,7 +34,7 @@ goodText kind text =
 unfoldable pub goodSize : Kind → ℕ → Bool
 goodSize kind size = cond (isKind Fixed kind) (ltb size (2 ^ 64)) (eqb size 0)
 
--- a decimal's note: of bytes up to 6, of a fixed up to 7
+-- a decimal's note: of bytes up to 6, of a fixed up to 7; no other row has one
 unfoldable pub goodNote : Kind → ℕ → Bool
 goodNote kind note = cond (isKind Fixed kind) (leb note 7) (cond (isKind Bytes kind) (leb note 6) (eqb note 0))
 
@@ -45,7 +45,7 @@ goodDecimal note precision scale =
     (leb 1 precision && leb scale precision && ltb precision (2 ^ 64))
     (eqb precision 0 && eqb scale 0)
 
--- and over a fixed it fits the size
+-- over a fixed its precision is at most the limit of the size; where no decimal holds it is 0 and at most any
 unfoldable pub goodPrecision : Kind → ℕ → ℕ → Bool
 goodPrecision kind size precision = cond (isKind Fixed kind) (leb precision (limitOf size)) true
 
