@@ -1,6 +1,6 @@
 -- What the readers' steps come to, over plain values.
 -- Assumes nothing.
-use mathlib.Core.Path.{_≡_, sym, ap, _∙_}
+use mathlib.Core.Path.{_≡_, refl, sym, ap, _∙_}
 use mathlib.Core.List.{List, []}
 use Prim.Native.Nat.{ℕ, suc, _+_, _-_, _*_, _<_, _≤_}
 use native.Mathlib.Nat.{add-zero, sub-zero}
@@ -11,7 +11,7 @@ use borrow.Author.Tests.{eq-eqb, ne-eqb}
 use Rattle.answer.specs.declared.counts.Counts.{Counts}
 use Rattle.answer.specs.Limits.{countsOf}
 use Rattle.ground.specs.Bytes.{part}
-use Rattle.row.specs.Kinds.{kindOf}
+use Rattle.row.specs.Kinds.{kindNumber, kindOf}
 use Rattle.row.specs.Numbers.{le, number}
 use Rattle.row.specs.Layout.{rowSize, rowsStart, stringsStart}
 use Rattle.row.specs.Rows.{entryOf, textOf, textStart, textLength}
@@ -37,6 +37,33 @@ module _ (m : List ℕ) (i : ℕ) where
   pub read-kind : (k : Kind) → k ≡ kindOf (getD m (rowsStart + rowSize * i) 0) → k ≡ entryAt m i .kind
   unfolding at entryAt entryOf
   read-kind k e = e ∙ ap (λ (n : ℕ). kindOf (getD m n 0)) (sym (add-zero at)) ∙ ap kindOf (byte-from m at 0)
+
+  pub read-number : {r : ℕ} → r ≡ kindNumber (kindOf (getD m (rowsStart + rowSize * i) 0)) → r ≡ kindNumber (entryAt m i .kind)
+  read-number e = e ∙ ap kindNumber (read-kind (kindOf (getD m (rowsStart + rowSize * i) 0)) refl)
+
+  pub read-depth : {r : ℕ} → r ≡ number m (rowsStart + rowSize * i + 2) 2 → r ≡ entryAt m i .depth
+  unfolding at entryAt entryOf
+  read-depth e = e ∙ number-from m at 2 2
+
+  pub read-position : {r : ℕ} → r ≡ number m (rowsStart + rowSize * i + 4) 2 → r ≡ entryAt m i .position
+  unfolding at entryAt entryOf
+  read-position e = e ∙ number-from m at 4 2
+
+  pub read-size : {r : ℕ} → r ≡ number m (rowsStart + rowSize * i + 10) 8 → r ≡ entryAt m i .size
+  unfolding at entryAt entryOf
+  read-size e = e ∙ number-from m at 10 8
+
+  pub read-note : getD m (rowsStart + rowSize * i + 1) 0 ≡ entryAt m i .note
+  unfolding at entryAt entryOf
+  read-note = byte-from m at 1
+
+  pub read-precision : {r : ℕ} → r ≡ number m (rowsStart + rowSize * i + 18) 8 → r ≡ entryAt m i .precision
+  unfolding at entryAt entryOf
+  read-precision e = e ∙ number-from m at 18 8
+
+  pub read-scale : {r : ℕ} → r ≡ number m (rowsStart + rowSize * i + 26) 8 → r ≡ entryAt m i .scale
+  unfolding at entryAt entryOf
+  read-scale e = e ∙ number-from m at 26 8
 
   pub read-entry : (k : Kind) (d p s q z : ℕ) → k ≡ kindOf (getD m (rowsStart + rowSize * i) 0) → d ≡ number m (rowsStart + rowSize * i + 2) 2 → p ≡ number m (rowsStart + rowSize * i + 4) 2
       → s ≡ number m (rowsStart + rowSize * i + 10) 8 → q ≡ number m (rowsStart + rowSize * i + 18) 8 → z ≡ number m (rowsStart + rowSize * i + 26) 8

@@ -19,18 +19,17 @@ use Rattle.row.specs.Rows.{textStart, textLength}
 use Rattle.row.specs.Sets.{countIn, isEncoding}
 use Rattle.row.specs.Memory.{fromRow, rowsBefore}
 use Rattle.row.specs.Tidy.{tidyRow, tidyEnd, rowsEnd, spareZero, isTidy}
-use Rattle.row.specs.declared.kind.Kind.{Kind}
 use Rattle.row.proofs.ReadLaws.{byte-from}
 use Rattle.row.proofs.TidyLaws.{AllBytes, tidy-exact}
 
 -- ---- one row
 
-module _ (m : List ℕ) (i o : ℕ) (k : Kind) (j : ℕ) (ke : k ≡ kindOf (getD m (rowsStart + rowSize * i) 0)) (je : j ≡ kindNumber k) where
+module _ (m : List ℕ) (i o j : ℕ) (je : j ≡ kindNumber (kindOf (getD m (rowsStart + rowSize * i) 0))) where
   first : getD m (rowsStart + rowSize * i) 0 ≡ number (fromRow m i) 0 1
   first = ap (λ (n : ℕ). getD m n 0) (sym (add-zero (rowsStart + rowSize * i))) ∙ byte-from m (rowsStart + rowSize * i) 0
 
   its-kind : j ≡ kindNumber (kindOf (number (fromRow m i) 0 1))
-  its-kind = je ∙ ap kindNumber (ke ∙ ap kindOf first)
+  its-kind = je ∙ ap (λ (n : ℕ). kindNumber (kindOf n)) first
 
   pub no-such-kind : (j ≡ getD m (rowsStart + rowSize * i) 0 → ⊥) → false ≡ tidyRow o (fromRow m i)
   unfolding tidyRow

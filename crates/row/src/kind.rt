@@ -77,4 +77,32 @@ impl Kind {
             _ => Kind::Null,
         }
     }
+
+    // The number of the kind that has this one: the number itself, or that of Null where no kind has it. No kind is made on the way,
+    // so that one test tells.
+    pub fn known(number: u8) -> u8
+        ensures { λ r. ⌜ r ≡ kindNumber (kindOf number) ⌝ }
+    {
+        match number {
+            2 => number,
+            3 => number,
+            4 => number,
+            5 => number,
+            6 => number,
+            7 => number,
+            8 => number,
+            16 => number,
+            24 => number,
+            25 => number,
+            26 => number,
+            32 => number,
+            33 => number,
+            34 => number,
+            40 => number,
+            41 => number,
+            48 => number,
+            49 => number,
+            _ => 1,
+        }
+    }
 }

@@ -9,6 +9,7 @@ ghost use mathlib.Core.Path.{_≡_};
 ghost use Prim.Native.Nat.{_≤_, _<_};
 ghost use lib.ListN.{length};
 ghost use Rattle.ground.specs.Bytes.{part};
+ghost use Rattle.row.specs.Kinds.{kindNumber};
 ghost use Rattle.row.specs.Layout.{declarationLimit, rowLimit, layoutLength};
 ghost use Rattle.row.specs.Rows.{textStart, textLength};
 ghost use Rattle.row.specs.Sets.{countIn};
@@ -21,6 +22,64 @@ pub fn kind_at(mem: &[u8], i: usize) -> Kind
 {
     let at = Layout::ROWS + Layout::ROW * i;
     Kind::of(mem[at])
+}
+
+// The number of that kind. No kind is made on the way.
+pub fn kind_number(mem: &[u8], i: usize) -> u8
+    requires { ⌜ (length (now mem) ≡ layoutLength) × (i < rowLimit) ⌝ }
+    ensures { λ r. ⌜ r ≡ kindNumber (entryAt (now (mem .entry)) i .kind) ⌝ }
+{
+    let at = Layout::ROWS + Layout::ROW * i;
+    Kind::known(mem[at])
+}
+
+// Each number of row i alone.
+pub fn depth_at(mem: &[u8], i: usize) -> usize
+    requires { ⌜ (length (now mem) ≡ layoutLength) × (i < rowLimit) ⌝ }
+    ensures { λ r. ⌜ (r ≡ entryAt (now (mem .entry)) i .depth) × (r < 65536) ⌝ }
+{
+    let at = Layout::ROWS + Layout::ROW * i;
+    u16_at(mem, at + 2) as usize
+}
+
+pub fn position_at(mem: &[u8], i: usize) -> usize
+    requires { ⌜ (length (now mem) ≡ layoutLength) × (i < rowLimit) ⌝ }
+    ensures { λ r. ⌜ r ≡ entryAt (now (mem .entry)) i .position ⌝ }
+{
+    let at = Layout::ROWS + Layout::ROW * i;
+    u16_at(mem, at + 4) as usize
+}
+
+pub fn size_at(mem: &[u8], i: usize) -> u64
+    requires { ⌜ (length (now mem) ≡ layoutLength) × (i < rowLimit) ⌝ }
+    ensures { λ r. ⌜ r ≡ entryAt (now (mem .entry)) i .size ⌝ }
+{
+    let at = Layout::ROWS + Layout::ROW * i;
+    u64_at(mem, at + 10)
+}
+
+pub fn note_at(mem: &[u8], i: usize) -> u8
+    requires { ⌜ (length (now mem) ≡ layoutLength) × (i < rowLimit) ⌝ }
+    ensures { λ r. ⌜ r ≡ entryAt (now (mem .entry)) i .note ⌝ }
+{
+    let at = Layout::ROWS + Layout::ROW * i;
+    mem[at + 1]
+}
+
+pub fn precision_at(mem: &[u8], i: usize) -> u64
+    requires { ⌜ (length (now mem) ≡ layoutLength) × (i < rowLimit) ⌝ }
+    ensures { λ r. ⌜ r ≡ entryAt (now (mem .entry)) i .precision ⌝ }
+{
+    let at = Layout::ROWS + Layout::ROW * i;
+    u64_at(mem, at + 18)
+}
+
+pub fn scale_at(mem: &[u8], i: usize) -> u64
+    requires { ⌜ (length (now mem) ≡ layoutLength) × (i < rowLimit) ⌝ }
+    ensures { λ r. ⌜ r ≡ entryAt (now (mem .entry)) i .scale ⌝ }
+{
+    let at = Layout::ROWS + Layout::ROW * i;
+    u64_at(mem, at + 26)
 }
 
 // Row i, all but its string.

@@ -21,8 +21,7 @@ fn tidy_row(mem: &[u8], i: usize, end: usize) -> bool
     ensures { λ r. ⌜ r ≡ tidyRow end (fromRow (now (mem .entry)) i) ⌝ }
 {
     let number = mem[Layout::ROWS + Layout::ROW * i];
-    let kind = Kind::of(number);
-    if kind.number() != number {
+    if Kind::known(number) != number {
         return false;
     }
     if text_start(mem, i) != end {

@@ -14,20 +14,17 @@ add-number c = search needs
 shared-slice-read-number : tie.Need-shared-slice-read-number
 shared-slice-read-number c = search needs
 
-of-requires : tie.Need-of-requires
-of-requires c κs = search needs
-
-number-requires : tie.Need-number-requires
-number-requires c κs = search needs
+known-requires : tie.Need-known-requires
+known-requires c κs = search needs
 
 returns : tie.Need-returns
-returns c = no-such-kind _ (c .before .before .before .before .before .args .i) (c .before .before .before .before .before .args .end) _ _ (c .before .before .of .ensures) (c .before .number .ensures) (c .if1 .taken)
+returns c = no-such-kind _ (c .before .before .before .before .args .i) (c .before .before .before .before .args .end) _ (c .before .known .ensures) (c .if1 .taken)
 
 text-start-requires : tie.Need-text-start-requires
 text-start-requires c κs = search needs
 
 returns-2 : tie.Need-returns-2
-returns-2 c = other-start _ (c .before .before .before .before .before .before .before .args .i) (c .before .before .before .before .before .before .before .args .end) _ _ (c .before .before .before .before .of .ensures) (c .before .before .before .number .ensures) (c .before .before .if1 .left) _ (c .before .text-start .ensures .0) (c .if2 .taken)
+returns-2 c = other-start _ (c .before .before .before .before .before .before .args .i) (c .before .before .before .before .before .before .args .end) _ (c .before .before .before .known .ensures) (c .before .before .if1 .left) _ (c .before .text-start .ensures .0) (c .if2 .taken)
 
 text-length-requires : tie.Need-text-length-requires
 text-length-requires c κs = search needs
@@ -36,7 +33,7 @@ add-result : tie.Need-add-result
 add-result c = search needs
 
 returns-3 : tie.Need-returns-3
-returns-3 c = start-there _ (c .before .before .before .before .before .before .before .before .args .i) (c .before .before .before .before .before .before .before .before .args .end) _ _ (c .before .before .before .before .before .of .ensures) (c .before .before .before .before .number .ensures) (c .before .before .before .if1 .left) _ (c .before .before .text-start .ensures .0) (c .before .if2 .left) _ (c .text-length .ensures .0)
+returns-3 c = start-there _ (c .before .before .before .before .before .before .before .args .i) (c .before .before .before .before .before .before .before .args .end) _ (c .before .before .before .before .known .ensures) (c .before .before .before .if1 .left) _ (c .before .before .text-start .ensures .0) (c .before .if2 .left) _ (c .text-length .ensures .0)
 
 pub tidy-row-spec : {M : Type 1} → statement M
 tidy-row-spec =
@@ -45,8 +42,7 @@ tidy-row-spec =
     mul-number
     add-number
     shared-slice-read-number
-    of-requires
-    number-requires
+    known-requires
     returns
     text-start-requires
     returns-2
