@@ -4,5 +4,7 @@ pub mod ResolveLaws
 pub mod TreeLaws
 pub mod DecodeLaws
 pub mod Laws
+mod ChainLaws
+mod LineLaws
 pub mod RuleLaws
 pub mod GrowLaws

@@ -5,16 +5,14 @@ use mathlib.Core.Bool.{Bool, true, false, _||_, or-assoc}
 use mathlib.Core.List.{List, [], _∷_, _++_, append-assoc, append-nil}
 use Prim.Native.Nat.{ℕ, _+_, _-_, _<_, _≤_}
 use Rattle.answer.specs.declared.refusal.Fault.{Fault}
-use Rattle.answer.specs.declared.refusal.Why.{Why}
 use Rattle.answer.specs.declared.refusal.Why.the-variants.{DefinedAlready, ReferenceUnknown}
 use Rattle.row.specs.Rows.{Row}
 use Rattle.row.specs.Sets.{rowsFrom}
 use Rattle.row.specs.Memory.{entryAt, textAt, rowAt}
-use Rattle.row.specs.declared.Entry.{Entry}
 use Rattle.row.specs.declared.kind.Kind.the-variants.{Reference}
 use Rattle.resolve.specs.Kinds.{isKind, isDefinition}
 use Rattle.resolve.specs.Rules.{some}
-use Rattle.resolve.specs.Resolve.{defines, isDefined, faulty, faultOf, orElse, faultIn}
+use Rattle.resolve.specs.Resolve.{defines, isDefined, faultOf, orElse, faultIn}
 use Rattle.resolve.specs.declared.Resolution.{Resolution}
 use Rattle.resolve.specs.declared.Resolution.the-variants.{Resolved, Faulty}
 use Rattle.resolve.proofs.KindLaws.{definition-reference}
@@ -30,12 +28,6 @@ some-append test (r ∷ a) b = rw (some-append test a b) (sym (or-assoc (test r)
 pub defined-append : (a b : List Row) (name : List ℕ) → isDefined (a ++ b) name ≡ (isDefined a name || isDefined b name)
 unfolding isDefined
 defined-append a b name = some-append (defines name) a b
-
-pub known-first : (a b : List Row) (name : List ℕ) → isDefined a name ≡ true → true ≡ isDefined (a ++ b) name
-known-first a b name e = sym (defined-append a b name ∙ rw e)
-
-pub known-then : (a b : List Row) (name : List ℕ) → isDefined a name ≡ false → isDefined b name ≡ isDefined (a ++ b) name
-known-then a b name e = sym (defined-append a b name ∙ rw e)
 
 -- ---- the turns of is_defined
 
@@ -54,37 +46,29 @@ module _ (m : List ℕ) (s n i : ℕ) (name : List ℕ) (x : Bool) (inv : x ≡ 
 
 -- ---- one row's fault
 
-module _ (earlier : List Row) (m : List ℕ) (i : ℕ) (e : Entry) (p : e ≡ entryAt m i) where
-  definition-of : isDefinition (rowAt m i .kind) ≡ isDefinition (e .kind)
-  definition-of = ap (λ (z : Entry). isDefinition (z .kind)) (sym p)
-
-  reference-of : isKind Reference (rowAt m i .kind) ≡ isKind Reference (e .kind)
-  reference-of = ap (λ (z : Entry). isKind Reference (z .kind)) (sym p)
-
-  place-of : (w : Why) → Faulty (record { why = w; at = e .position }) ≡ faulty w (rowAt m i)
-  place-of w = ap (λ (z : Entry). Faulty (record { why = w; at = z .position })) p
-
-  module _ (d : isDefinition (e .kind) ≡ true) where
-    pub fault-twice : isDefined earlier (textAt m i) ≡ true → Faulty (record { why = DefinedAlready; at = e .position }) ≡ faultOf earlier (rowAt m i)
+module _ (earlier : List Row) (m : List ℕ) (i : ℕ) where
+  module _ (d : isDefinition (entryAt m i .kind) ≡ true) where
+    pub fault-twice : isDefined earlier (textAt m i) ≡ true → {p : ℕ} → p ≡ entryAt m i .position → Faulty (record { why = DefinedAlready; at = p }) ≡ faultOf earlier (rowAt m i)
     unfolding faultOf
-    fault-twice k = place-of DefinedAlready ∙ rw (definition-of ∙ d, k)
+    fault-twice k e = rw (d, k, e)
 
     pub fault-new : isDefined earlier (textAt m i) ≡ false → Resolved ≡ faultOf earlier (rowAt m i)
     unfolding faultOf
-    fault-new k = rw (definition-of ∙ d, k, definition-reference (rowAt m i .kind) (definition-of ∙ d))
+    fault-new k = rw (d, k, definition-reference (entryAt m i .kind) d)
 
-  module _ (d : isDefinition (e .kind) ≡ false) where
-    pub fault-known : isKind Reference (e .kind) ≡ true → isDefined earlier (textAt m i) ≡ true → Resolved ≡ faultOf earlier (rowAt m i)
+  module _ (d : isDefinition (entryAt m i .kind) ≡ false) where
+    pub fault-known : isKind Reference (entryAt m i .kind) ≡ true → isDefined earlier (textAt m i) ≡ true → Resolved ≡ faultOf earlier (rowAt m i)
     unfolding faultOf
-    fault-known f k = rw (definition-of ∙ d, reference-of ∙ f, k)
+    fault-known f k = rw (d, f, k)
 
-    pub fault-unknown : isKind Reference (e .kind) ≡ true → isDefined earlier (textAt m i) ≡ false → Faulty (record { why = ReferenceUnknown; at = e .position }) ≡ faultOf earlier (rowAt m i)
+    pub fault-unknown : isKind Reference (entryAt m i .kind) ≡ true → isDefined earlier (textAt m i) ≡ false → {p : ℕ} → p ≡ entryAt m i .position
+        → Faulty (record { why = ReferenceUnknown; at = p }) ≡ faultOf earlier (rowAt m i)
     unfolding faultOf
-    fault-unknown f k = place-of ReferenceUnknown ∙ rw (definition-of ∙ d, reference-of ∙ f, k)
+    fault-unknown f k e = rw (d, f, k, e)
 
-    pub fault-other : isKind Reference (e .kind) ≡ false → Resolved ≡ faultOf earlier (rowAt m i)
+    pub fault-other : isKind Reference (entryAt m i .kind) ≡ false → Resolved ≡ faultOf earlier (rowAt m i)
     unfolding faultOf
-    fault-other f = rw (definition-of ∙ d, reference-of ∙ f)
+    fault-other f = rw (d, f)
 
 -- ---- the turns of first_fault
 

@@ -1,7 +1,7 @@
 -- The turns of the walks over the rows under a row, over plain values.
 -- Assumes nothing.
 use mathlib.Core.Path.{_≡_, refl, sym, ap, _∙_}
-use mathlib.Core.Bool.{Bool, true, false, cond, _&&_, _||_, and-false}
+use mathlib.Core.Bool.{Bool, true, false, cond, _||_, and-false}
 use mathlib.Core.List.{List, [], _∷_}
 use Prim.Native.Nat.{ℕ, zero, suc, _+_, _-_, _<_, _≤_}
 use native.Mathlib.Nat.{add-zero}
@@ -11,16 +11,14 @@ use lib.Dec.{eqb, eqb·suc-zero}
 use lib.ListN.{length}
 use borrow.Author.Tests.{lt-ltb, le-ltb, le-leb, lt-leb, eq-eqb, ne-eqb}
 use Rattle.name.specs.Name.{every}
-use Rattle.ground.specs.Bytes.{same}
-use Rattle.row.specs.Rows.{Row, rowOf}
+use Rattle.row.specs.Rows.{Row}
 use Rattle.row.specs.Sets.{rowsFrom}
 use Rattle.row.specs.Memory.{entryAt, textAt, rowAt}
-use Rattle.row.specs.declared.Entry.{Entry}
 use Rattle.row.specs.declared.kind.Kind.{Kind}
-use Rattle.row.specs.declared.kind.Kind.the-variants.{Union, Record, Enum, Field, Symbol}
+use Rattle.row.specs.declared.kind.Kind.the-variants.{Union, Record, Enum}
 use Rattle.resolve.specs.Kinds.{isKind, isSchema, isPartOf, past, bodyFits, partsFit}
-use Rattle.resolve.specs.Rules.{goodText, goodNumbers, under, kindsAt, isAt, isFieldName, takesName, sameSymbol, sameSchema, sameMember, clash, some, noTwo, goodParts, noClash, goodRow, goodRows, climbs, isDeclaration}
-use Rattle.resolve.specs.Steps.{isLeading, mayEnd, leftFit, isRuled, mayMeet}
+use Rattle.resolve.specs.Rules.{goodText, goodNumbers, under, kindsAt, takesName, sameSymbol, sameMember, clash, some, noTwo, goodParts, noClash, goodRow, goodRows, climbs, isDeclaration}
+use Rattle.resolve.specs.Steps.{isLeading, mayEnd, leftFit, isRuled}
 use Rattle.resolve.proofs.MemoryLaws.{rows-none, rows-cons, rows-next, rows-end}
 
 -- ---- the rows under a row, one after the other
@@ -106,69 +104,12 @@ pub parts-start : (m : List ℕ) (end i : ℕ) (kind : Kind) (d : ℕ) → kind 
 unfolding goodParts below
 parts-start m end i kind d p q = rw (p, q) (sym (left-start (rowAt m i .kind) _))
 
--- ---- a row that meets a later one
+-- ---- no two rows that clash
 
-module _ (m : List ℕ) (end d j : ℕ) (test : Row → Bool) (x : Bool) (inv : x ≡ some test (below m end d j)) where
-  pub some-end : end ≤ j → false ≡ x
-  unfolding some
-  some-end l = sym (inv ∙ rw (below-end m end d j l))
-
-  module _ (l : j < end) (y : ℕ) (e : y ≡ entryAt m j .depth) where
-    pub some-stop : y ≤ d → false ≡ x
-    unfolding some
-    some-stop h = sym (inv ∙ rw (below-stop m end d j l (rw e at h)))
-
-    pub some-hit : d < y → test (rowAt m j) ≡ true → true ≡ x
-    unfolding some
-    some-hit h t = sym (inv ∙ rw (below-next m end d j l (rw e at h), t))
-
-    pub some-more : d < y → test (rowAt m j) ≡ false → x ≡ some test (below m end d (j + 1))
-    unfolding some
-    some-more h t = inv ∙ rw (below-next m end d j l (rw e at h), t)
-
-pub some-start : (m : List ℕ) (end d i : ℕ) (test : Row → Bool) → some test (under d (rowsFrom m (end - (i + 1)) (i + 1))) ≡ some test (below m end d (i + 1))
-unfolding below
-some-start m end d i test = refl
-
--- no later row clashes with one that may not meet any
-meet-none : (kind : Kind) (d : ℕ) (a b : Row) → mayMeet kind d a ≡ false → clash kind d a b ≡ false
-unfolding mayMeet clash takesName sameSymbol sameMember
-meet-none kind d a b e = go (isKind Record kind) (isKind Enum kind) (isKind Union kind) e
-  where
-    go : (r s u : Bool) → cond r (isFieldName d a) (cond s (isAt Symbol (d + 1) a) (eqb (a .depth) (d + 1))) ≡ false
-        → cond r (isFieldName d a && isAt Field (d + 1) b && same (a .text) (b .text)) (cond s (isAt Symbol (d + 1) a && isAt Symbol (d + 1) b && same (a .text) (b .text)) (cond u (eqb (a .depth) (d + 1) && eqb (b .depth) (d + 1) && sameSchema a b) false)) ≡ false
-    go true s u e = rw e
-    go false true u e = rw e
-    go false false true e = rw e
-    go false false false e = refl
-
-some-none : (test : Row → Bool) (rows : List Row) → ((r : Row) → test r ≡ false) → some test rows ≡ false
+pub some-none : (test : Row → Bool) (rows : List Row) → ((r : Row) → test r ≡ false) → some test rows ≡ false
 unfolding some
 some-none test [] h = refl
 some-none test (r ∷ rows) h = rw (h r) (some-none test rows h)
-
-pub meets-none : (kind : Kind) (d : ℕ) (a : Row) (rows : List Row) → mayMeet kind d a ≡ false → false ≡ some (clash kind d a) rows
-meets-none kind d a rows e = sym (some-none (clash kind d a) rows (λ b. meet-none kind d a b e))
-
--- ---- no two rows that clash
-
-module _ (m : List ℕ) (end d j : ℕ) (meet : Row → Row → Bool) (x : Bool) (inv : x ≡ noTwo meet (below m end d j)) where
-  pub two-end : end ≤ j → true ≡ x
-  unfolding noTwo
-  two-end l = sym (inv ∙ rw (below-end m end d j l))
-
-  module _ (l : j < end) (y : ℕ) (e : y ≡ entryAt m j .depth) where
-    pub two-stop : y ≤ d → true ≡ x
-    unfolding noTwo
-    two-stop h = sym (inv ∙ rw (below-stop m end d j l (rw e at h)))
-
-    pub two-hit : d < y → some (meet (rowAt m j)) (under d (rowsFrom m (end - (j + 1)) (j + 1))) ≡ true → false ≡ x
-    unfolding noTwo below
-    two-hit h t = sym (inv ∙ rw (below-next m end d j l (rw e at h), t))
-
-    pub two-more : d < y → some (meet (rowAt m j)) (under d (rowsFrom m (end - (j + 1)) (j + 1))) ≡ false → x ≡ noTwo meet (below m end d (j + 1))
-    unfolding noTwo below
-    two-more h t = inv ∙ rw (below-next m end d j l (rw e at h), t)
 
 pub two-start : (m : List ℕ) (end i : ℕ) (kind : Kind) (d : ℕ) → kind ≡ entryAt m i .kind → d ≡ entryAt m i .depth
     → noClash (rowAt m i) (rowsFrom m (end - (i + 1)) (i + 1)) ≡ noTwo (clash kind d) (below m end d (i + 1))
@@ -231,31 +172,24 @@ module _ (m : List ℕ) (end j : ℕ) (x : Bool) (inv : x ≡ goodRows (rowsFrom
   good-more l e = inv ∙ rw (rows-next m j end l, e)
 
 -- a row's tests, one after the other
-module _ (m : List ℕ) (i : ℕ) (rest : List Row) (e : Entry) (p : e ≡ entryAt m i) where
-  text-of : goodText (e .kind) (textAt m i) ≡ goodText (rowAt m i .kind) (rowAt m i .text)
-  text-of = ap (λ (z : Entry). goodText (z .kind) (textAt m i)) p
-
-  numbers-of : goodNumbers (rowOf e []) ≡ goodNumbers (rowAt m i)
-  unfolding goodNumbers
-  numbers-of = ap (λ (z : Entry). goodNumbers (rowOf z (textAt m i))) p
-
-  pub row-text : goodText (e .kind) (textAt m i) ≡ false → false ≡ goodRow (rowAt m i) rest
+module _ (m : List ℕ) (i : ℕ) (rest : List Row) where
+  pub row-text : goodText (entryAt m i .kind) (textAt m i) ≡ false → false ≡ goodRow (rowAt m i) rest
   unfolding goodRow
-  row-text t = rw (sym text-of ∙ t)
+  row-text t = rw t
 
-  module _ (t : goodText (e .kind) (textAt m i) ≡ true) where
-    pub row-numbers : goodNumbers (rowOf e []) ≡ false → false ≡ goodRow (rowAt m i) rest
+  module _ (t : goodText (entryAt m i .kind) (textAt m i) ≡ true) where
+    pub row-numbers : goodNumbers (rowAt m i) ≡ false → false ≡ goodRow (rowAt m i) rest
     unfolding goodRow
-    row-numbers u = rw (sym text-of ∙ t, sym numbers-of ∙ u)
+    row-numbers u = rw (t, u)
 
-    module _ (u : goodNumbers (rowOf e []) ≡ true) where
+    module _ (u : goodNumbers (rowAt m i) ≡ true) where
       pub row-parts : goodParts (rowAt m i) rest ≡ false → false ≡ goodRow (rowAt m i) rest
       unfolding goodRow
-      row-parts v = rw (sym text-of ∙ t, sym numbers-of ∙ u, v)
+      row-parts v = rw (t, u, v)
 
       pub row-last : goodParts (rowAt m i) rest ≡ true → noClash (rowAt m i) rest ≡ goodRow (rowAt m i) rest
       unfolding goodRow
-      row-last v = rw (sym text-of ∙ t, sym numbers-of ∙ u, v)
+      row-last v = rw (t, u, v)
 
 -- a declaration's tests, one after the other
 pub declaration-none : (m : List ℕ) (s n : ℕ) → n ≡ 0 → false ≡ isDeclaration (rowsFrom m n s)

@@ -1,6 +1,6 @@
 // Whether bytes are a well-formed set.
 use crate::Resolution;
-use crate::declaration::is_declaration;
+use crate::declaration::is_declaration_by;
 use crate::names::first_fault;
 use row::read::declarations;
 use row::read::rows_before;
@@ -18,16 +18,18 @@ ghost use Rattle.resolve.specs.Rules.{isDeclaration};
 ghost use Rattle.resolve.specs.Resolve.{faultIn, isResolved};
 ghost use Rattle.resolve.specs.WellFormed.{wellFormed};
 
-// Are the rows of each of the n places one declaration?
+// Are the rows of each of the n places one declaration? One pair of tables serves them all.
 fn are_declarations(mem: &[u8], n: usize) -> bool
     requires { ⌜ (length (now mem) ≡ layoutLength) × (n ≡ countIn (now mem)) × (n ≤ declarationLimit) × (rowsBefore (now mem) n ≤ rowLimit) ⌝ }
     ensures { λ r. ⌜ r ≡ every isDeclaration (decode (now (mem .entry))) ⌝ }
 {
+    let mut first: [u16; 2048] = [0; 2048];
+    let mut next: [u16; 2048] = [0; 2048];
     let mut start = 0;
     let mut place = 0;
     while place < n {
         let rows = rows_of(mem, place);
-        if !is_declaration(mem, start, rows) {
+        if !is_declaration_by(mem, start, rows, &mut first, &mut next) {
             return false;
         }
         start += rows;

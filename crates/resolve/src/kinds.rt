@@ -1,59 +1,61 @@
-// Which kinds are schemas and definitions, and what may stand under a row of each kind.
+// Which kinds are schemas and definitions, and what may stand under a row of each kind. A kind is told here by its number.
 use row::Kind;
 ghost use mathlib.Core.Path.{_≡_};
 ghost use mathlib.Core.Bool.{not, _&&_};
+ghost use Rattle.row.specs.Kinds.{kindNumber};
+ghost use Rattle.row.specs.declared.kind.Kind.{Kind};
 ghost use Rattle.row.specs.declared.kind.Kind.the-variants.{Union};
 ghost use Rattle.resolve.specs.Kinds.{isKind, isDefinition, isNamed, isSchema, isAliasOf, hasOne, isPartOf};
 ghost use Rattle.resolve.specs.Steps.{isLeading, mayEnd};
 
-pub fn is_kind(kind: Kind, k: Kind) -> bool
-    ensures { λ r. ⌜ r ≡ isKind kind k ⌝ }
+pub fn is_kind(kind: Kind, n: u8) -> bool
+    ensures { λ r. ⌜ ((k : Kind) → n ≡ kindNumber k → r ≡ isKind kind k) ⌝ }
 {
-    k.number() == kind.number()
+    n == kind.number()
 }
 
-pub fn is_definition(k: Kind) -> bool
-    ensures { λ r. ⌜ r ≡ isDefinition k ⌝ }
+pub fn is_definition(n: u8) -> bool
+    ensures { λ r. ⌜ ((k : Kind) → n ≡ kindNumber k → r ≡ isDefinition k) ⌝ }
 {
-    if is_kind(Kind::Record, k) {
+    if is_kind(Kind::Record, n) {
         return true;
     }
-    if is_kind(Kind::Enum, k) {
+    if is_kind(Kind::Enum, n) {
         return true;
     }
-    is_kind(Kind::Fixed, k)
+    is_kind(Kind::Fixed, n)
 }
 
-pub fn is_named(k: Kind) -> bool
-    ensures { λ r. ⌜ r ≡ isNamed k ⌝ }
+pub fn is_named(n: u8) -> bool
+    ensures { λ r. ⌜ ((k : Kind) → n ≡ kindNumber k → r ≡ isNamed k) ⌝ }
 {
-    if is_definition(k) {
+    if is_definition(n) {
         return true;
     }
-    is_kind(Kind::Reference, k)
+    is_kind(Kind::Reference, n)
 }
 
 // The numbers of schemas come before that of a field.
-pub fn is_schema(k: Kind) -> bool
-    ensures { λ r. ⌜ r ≡ isSchema k ⌝ }
+pub fn is_schema(n: u8) -> bool
+    ensures { λ r. ⌜ ((k : Kind) → n ≡ kindNumber k → r ≡ isSchema k) ⌝ }
 {
-    k.number() < Kind::Field.number()
+    n < Kind::Field.number()
 }
 
-fn is_alias_of(kind: Kind, k: Kind) -> bool
-    ensures { λ r. ⌜ r ≡ isAliasOf kind k ⌝ }
+fn is_alias_of(kind: u8, n: u8) -> bool
+    ensures { λ r. ⌜ ((a k : Kind) → kind ≡ kindNumber a → n ≡ kindNumber k → r ≡ isAliasOf a k) ⌝ }
 {
     if is_definition(kind) {
-        return is_kind(Kind::Alias, k);
+        return is_kind(Kind::Alias, n);
     }
     if is_kind(Kind::Field, kind) {
-        return is_kind(Kind::FieldAlias, k);
+        return is_kind(Kind::FieldAlias, n);
     }
     false
 }
 
-fn has_one(kind: Kind) -> bool
-    ensures { λ r. ⌜ r ≡ hasOne kind ⌝ }
+fn has_one(kind: u8) -> bool
+    ensures { λ r. ⌜ ((a : Kind) → kind ≡ kindNumber a → r ≡ hasOne a) ⌝ }
 {
     if is_kind(Kind::Array, kind) {
         return true;
@@ -64,49 +66,49 @@ fn has_one(kind: Kind) -> bool
     is_kind(Kind::Field, kind)
 }
 
-fn is_member(k: Kind) -> bool
-    ensures { λ r. ⌜ r ≡ (not (isKind Union k) && isSchema k) ⌝ }
+fn is_member(n: u8) -> bool
+    ensures { λ r. ⌜ ((k : Kind) → n ≡ kindNumber k → r ≡ (not (isKind Union k) && isSchema k)) ⌝ }
 {
-    if is_kind(Kind::Union, k) {
+    if is_kind(Kind::Union, n) {
         return false;
     }
-    is_schema(k)
+    is_schema(n)
 }
 
-pub fn is_part_of(kind: Kind, k: Kind) -> bool
-    ensures { λ r. ⌜ r ≡ isPartOf kind k ⌝ }
+pub fn is_part_of(kind: u8, n: u8) -> bool
+    ensures { λ r. ⌜ ((a k : Kind) → kind ≡ kindNumber a → n ≡ kindNumber k → r ≡ isPartOf a k) ⌝ }
 {
     if is_kind(Kind::Record, kind) {
-        return is_kind(Kind::Field, k);
+        return is_kind(Kind::Field, n);
     }
     if is_kind(Kind::Enum, kind) {
-        return is_kind(Kind::Symbol, k);
+        return is_kind(Kind::Symbol, n);
     }
     if is_kind(Kind::Union, kind) {
-        return is_member(k);
+        return is_member(n);
     }
     if has_one(kind) {
-        return is_schema(k);
+        return is_schema(n);
     }
     false
 }
 
-// Is k, behind n parts, one of the aliases that stand before the parts?
-pub fn is_leading(kind: Kind, n: usize, k: Kind) -> bool
-    ensures { λ r. ⌜ r ≡ isLeading kind n k ⌝ }
+// Is a row of the number n, behind so many parts, one of the aliases that stand before the parts?
+pub fn is_leading(kind: u8, parts: usize, n: u8) -> bool
+    ensures { λ r. ⌜ ((a k : Kind) → kind ≡ kindNumber a → n ≡ kindNumber k → r ≡ isLeading a parts k) ⌝ }
 {
-    if n != 0 {
+    if parts != 0 {
         return false;
     }
-    is_alias_of(kind, k)
+    is_alias_of(kind, n)
 }
 
-// May a row of a kind have n parts?
-pub fn may_end(kind: Kind, n: usize) -> bool
-    ensures { λ r. ⌜ r ≡ mayEnd kind n ⌝ }
+// May a row of a kind have so many parts?
+pub fn may_end(kind: u8, parts: usize) -> bool
+    ensures { λ r. ⌜ ((a : Kind) → kind ≡ kindNumber a → r ≡ mayEnd a parts) ⌝ }
 {
     if has_one(kind) {
-        return n == 1;
+        return parts == 1;
     }
     true
 }

@@ -1,15 +1,23 @@
 // The numbers that a row keeps, by its kind.
 use crate::kinds::is_kind;
 use decimals::limit;
-use row::Entry;
 use row::Kind;
+use row::read::note_at;
+use row::read::position_at;
+use row::read::precision_at;
+use row::read::scale_at;
+use row::read::size_at;
 ghost use mathlib.Core.Path.{_≡_};
-ghost use mathlib.Core.List.{[]};
-ghost use Rattle.row.specs.Rows.{rowOf};
+ghost use Prim.Native.Nat.{_<_};
+ghost use lib.ListN.{length};
+ghost use Rattle.row.specs.Kinds.{kindNumber};
+ghost use Rattle.row.specs.Layout.{rowLimit, layoutLength};
+ghost use Rattle.row.specs.Memory.{entryAt, rowAt};
+ghost use Rattle.row.specs.declared.kind.Kind.{Kind};
 ghost use Rattle.resolve.specs.Rules.{goodSize, goodNote, goodPrecision, goodDecimal, goodNumbers};
 
-fn good_size(kind: Kind, size: u64) -> bool
-    ensures { λ r. ⌜ r ≡ goodSize kind size ⌝ }
+fn good_size(kind: u8, size: u64) -> bool
+    ensures { λ r. ⌜ ((k : Kind) → kind ≡ kindNumber k → r ≡ goodSize k size) ⌝ }
 {
     if is_kind(Kind::Fixed, kind) {
         return true;
@@ -17,8 +25,8 @@ fn good_size(kind: Kind, size: u64) -> bool
     size == 0
 }
 
-fn good_note(kind: Kind, note: u8) -> bool
-    ensures { λ r. ⌜ r ≡ goodNote kind note ⌝ }
+fn good_note(kind: u8, note: u8) -> bool
+    ensures { λ r. ⌜ ((k : Kind) → kind ≡ kindNumber k → r ≡ goodNote k note) ⌝ }
 {
     if is_kind(Kind::Fixed, kind) {
         return note <= 7;
@@ -29,8 +37,8 @@ fn good_note(kind: Kind, note: u8) -> bool
     note == 0
 }
 
-fn good_precision(kind: Kind, size: u64, precision: u64) -> bool
-    ensures { λ r. ⌜ r ≡ goodPrecision kind size precision ⌝ }
+fn good_precision(kind: u8, size: u64, precision: u64) -> bool
+    ensures { λ r. ⌜ ((k : Kind) → kind ≡ kindNumber k → r ≡ goodPrecision k size precision) ⌝ }
 {
     if is_kind(Kind::Fixed, kind) {
         return precision <= limit(size);
@@ -53,21 +61,25 @@ fn good_decimal(note: u8, precision: u64, scale: u64) -> bool
     scale == 0
 }
 
-pub fn good_numbers(e: Entry) -> bool
-    ensures { λ r. ⌜ r ≡ goodNumbers (rowOf e []) ⌝ }
+// Row i, whose kind has this number.
+pub fn good_numbers(mem: &[u8], kind: u8, i: usize) -> bool
+    requires { ⌜ (length (now mem) ≡ layoutLength) × (i < rowLimit) × (kind ≡ kindNumber (entryAt (now mem) i .kind)) ⌝ }
+    ensures { λ r. ⌜ r ≡ goodNumbers (rowAt (now (mem .entry)) i) ⌝ }
 {
-    let kind = e.kind;
-    if 32768 <= e.position {
+    if 32768 <= position_at(mem, i) {
         return false;
     }
-    if !good_size(kind, e.size) {
+    let size = size_at(mem, i);
+    if !good_size(kind, size) {
         return false;
     }
-    if !good_note(kind, e.note) {
+    let note = note_at(mem, i);
+    if !good_note(kind, note) {
         return false;
     }
-    if !good_precision(kind, e.size, e.precision) {
+    let precision = precision_at(mem, i);
+    if !good_precision(kind, size, precision) {
         return false;
     }
-    good_decimal(e.note, e.precision, e.scale)
+    good_decimal(note, precision, scale_at(mem, i))
 }

@@ -1,4 +1,4 @@
-// The string that a row keeps, by its kind.
+// The string that a row keeps, by its kind's number.
 use crate::kinds::is_definition;
 use crate::kinds::is_kind;
 use name::Full;
@@ -9,6 +9,8 @@ use row::Kind;
 ghost use mathlib.Core.Path.{_≡_};
 ghost use mathlib.Core.Bool.{not, _&&_, _||_};
 ghost use Rattle.name.specs.Name.{isReserved};
+ghost use Rattle.row.specs.Kinds.{kindNumber};
+ghost use Rattle.row.specs.declared.kind.Kind.{Kind};
 ghost use Rattle.row.specs.declared.kind.Kind.the-variants.{Field, Symbol, Alias, FieldAlias};
 ghost use Rattle.resolve.specs.Kinds.{isKind, isDefinition};
 ghost use Rattle.resolve.specs.Rules.{isFullName, isOwnName, goodText};
@@ -41,8 +43,8 @@ fn is_free_name(s: &[u8]) -> bool
 }
 
 // Kinds whose string is a full name that a definition may have.
-fn defines_or_alias(kind: Kind) -> bool
-    ensures { λ r. ⌜ r ≡ (isDefinition kind || isKind Alias kind) ⌝ }
+fn defines_or_alias(kind: u8) -> bool
+    ensures { λ r. ⌜ ((k : Kind) → kind ≡ kindNumber k → r ≡ (isDefinition k || isKind Alias k)) ⌝ }
 {
     if is_definition(kind) {
         return true;
@@ -51,8 +53,8 @@ fn defines_or_alias(kind: Kind) -> bool
 }
 
 // Kinds whose string is a simple name.
-fn has_own_name(kind: Kind) -> bool
-    ensures { λ r. ⌜ r ≡ (isKind Field kind || isKind FieldAlias kind || isKind Symbol kind) ⌝ }
+fn has_own_name(kind: u8) -> bool
+    ensures { λ r. ⌜ ((k : Kind) → kind ≡ kindNumber k → r ≡ (isKind Field k || isKind FieldAlias k || isKind Symbol k)) ⌝ }
 {
     if is_kind(Kind::Field, kind) {
         return true;
@@ -63,8 +65,8 @@ fn has_own_name(kind: Kind) -> bool
     is_kind(Kind::Symbol, kind)
 }
 
-pub fn good_text(kind: Kind, text: &[u8]) -> bool
-    ensures { λ r. ⌜ r ≡ goodText kind (now (text .entry)) ⌝ }
+pub fn good_text(kind: u8, text: &[u8]) -> bool
+    ensures { λ r. ⌜ ((k : Kind) → kind ≡ kindNumber k → r ≡ goodText k (now (text .entry))) ⌝ }
 {
     if defines_or_alias(kind) {
         return is_free_name(text);

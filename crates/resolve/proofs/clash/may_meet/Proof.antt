@@ -3,8 +3,8 @@
 use mathlib.Core.Path.{sym, ap, _∙_}
 use Prim.Native.Nat.{ℕ, _+_}
 use lib.Dec.{eqb}
-use borrow.Author.Needs.{needs}
 use Rattle.resolve.specs.Steps.{mayMeet}
+use borrow.Author.Needs.{needs}
 use Rattle.resolve.proofs.clash.may_meet.Statement.{statement}
 use Rattle.resolve.proofs.clash.may_meet.Tie as tie
 
@@ -16,7 +16,8 @@ is-field-name-requires c κs = search needs
 
 returns : tie.Need-returns
 unfolding mayMeet
-returns c = rw (sym (c .before .before .is-kind .ensures) ∙ c .before .if1 .taken) (c .is-field-name .ensures)
+returns c =
+    λ k e. rw (sym (c .before .before .is-kind .ensures k e) ∙ c .before .if1 .taken) (c .is-field-name .ensures)
 
 is-kind-requires-2 : tie.Need-is-kind-requires-2
 is-kind-requires-2 c κs = search needs
@@ -29,7 +30,8 @@ is-at-requires c κs = search needs
 
 returns-2 : tie.Need-returns-2
 unfolding mayMeet
-returns-2 c = rw (sym (c .before .before .before .before .is-kind .ensures) ∙ c .before .before .before .if1 .left, sym (c .before .before .is-kind2 .ensures) ∙ c .before .if2 .taken) (c .is-at .ensures)
+returns-2 c =
+    λ k e. rw (sym (c .before .before .before .before .is-kind .ensures k e) ∙ c .before .before .before .if1 .left, sym (c .before .before .is-kind2 .ensures k e) ∙ c .before .if2 .taken) (c .is-at .ensures)
 
 depth-at-requires : tie.Need-depth-at-requires
 depth-at-requires c κs = search needs
@@ -39,7 +41,20 @@ add-result c = search needs
 
 returns-3 : tie.Need-returns-3
 unfolding mayMeet
-returns-3 c = rw (sym (c .before .before .before .before .is-kind .ensures) ∙ c .before .before .before .if1 .left, sym (c .before .before .is-kind2 .ensures) ∙ c .before .if2 .left) (ap (λ (x : ℕ). eqb x (c .before .before .before .before .before .before .args .depth + 1)) (c .depth-at .ensures .0))
+returns-3 c =
+    λ k e. rw (sym (c .before .before .before .before .is-kind .ensures k e) ∙ c .before .before .before .if1 .left, sym (c .before .before .is-kind2 .ensures k e) ∙ c .before .if2 .left) (ap (λ (x : ℕ). eqb x (c .before .before .before .before .before .before .args .depth + 1)) (c .depth-at .ensures .0))
 
 pub may-meet-spec : {M : Type 1} → statement M
-may-meet-spec = tie.close (tie.spec is-kind-requires is-field-name-requires returns is-kind-requires-2 add-is-at is-at-requires returns-2 depth-at-requires add-result returns-3)
+may-meet-spec =
+    tie.close
+    (tie.spec
+    is-kind-requires
+    is-field-name-requires
+    returns
+    is-kind-requires-2
+    add-is-at
+    is-at-requires
+    returns-2
+    depth-at-requires
+    add-result
+    returns-3)

@@ -1,15 +1,15 @@
 -- `resolve::declaration::good_row` meets its contract.
 -- Assumes nothing.
 use mathlib.Core.Path.{sym, ap, _∙_}
-use borrow.Author.Needs.{needs}
 use borrow.Author.Tests.{not-true, not-false}
 use Rattle.resolve.specs.Rules.{goodText}
 use Rattle.resolve.proofs.TreeLaws.{row-text, row-numbers, row-parts, row-last}
+use borrow.Author.Needs.{needs}
 use Rattle.resolve.proofs.declaration.good_row.Statement.{statement}
 use Rattle.resolve.proofs.declaration.good_row.Tie as tie
 
-read-row-requires : tie.Need-read-row-requires
-read-row-requires c κs = search needs
+kind-number-requires : tie.Need-kind-number-requires
+kind-number-requires c κs = search needs
 
 string-of-requires : tie.Need-string-of-requires
 string-of-requires c κs = search needs
@@ -18,25 +18,51 @@ good-text-requires : tie.Need-good-text-requires
 good-text-requires c κs = search needs
 
 returns : tie.Need-returns
-returns c = row-text _ _ _ _ (c .before .before .before .read-row .ensures) (ap (goodText _) (sym (c .before .before .string-of .ensures)) ∙ sym (c .before .good-text .ensures) ∙ not-true _ (c .if1 .taken))
+returns c =
+    (row-text _ _ _ (ap (goodText _) (sym (c .before .before .string-of .ensures)) ∙ sym (c .before .good-text .ensures _ (c .before .before .before .kind-number .ensures)) ∙ not-true _ (c .if1 .taken)), c .before .before .before .before .before .before .before .pre .3)
 
 good-numbers-requires : tie.Need-good-numbers-requires
-good-numbers-requires c κs = search needs
+good-numbers-requires c κs = (search needs, search needs, c .before .before .before .kind-number .ensures)
 
 returns-2 : tie.Need-returns-2
-returns-2 c = row-numbers _ _ _ _ (c .before .before .before .before .before .read-row .ensures) (ap (goodText _) (sym (c .before .before .before .before .string-of .ensures)) ∙ sym (c .before .before .before .good-text .ensures) ∙ not-false _ (c .before .before .if1 .left)) (sym (c .before .good-numbers .ensures) ∙ not-true _ (c .if2 .taken))
+returns-2 c =
+    (row-numbers _ _ _ (ap (goodText _) (sym (c .before .before .before .before .string-of .ensures)) ∙ sym (c .before .before .before .good-text .ensures _ (c .before .before .before .before .before .kind-number .ensures)) ∙ not-false _ (c .before .before .if1 .left)) (sym (c .before .good-numbers .ensures) ∙ not-true _ (c .if2 .taken)), c .before .before .before .before .before .before .before .before .before .pre .3)
 
 good-parts-requires : tie.Need-good-parts-requires
 good-parts-requires c κs = search needs
 
 returns-3 : tie.Need-returns-3
-returns-3 c = row-parts _ _ _ _ (c .before .before .before .before .before .before .before .read-row .ensures) (ap (goodText _) (sym (c .before .before .before .before .before .before .string-of .ensures)) ∙ sym (c .before .before .before .before .before .good-text .ensures) ∙ not-false _ (c .before .before .before .before .if1 .left)) (sym (c .before .before .before .good-numbers .ensures) ∙ not-false _ (c .before .before .if2 .left)) (sym (c .before .good-parts .ensures) ∙ not-true _ (c .if3 .taken))
+returns-3 c =
+    (row-parts _ _ _ (ap (goodText _) (sym (c .before .before .before .before .before .before .string-of .ensures)) ∙ sym (c .before .before .before .before .before .good-text .ensures _ (c .before .before .before .before .before .before .before .kind-number .ensures)) ∙ not-false _ (c .before .before .before .before .if1 .left)) (sym (c .before .before .before .good-numbers .ensures) ∙ not-false _ (c .before .before .if2 .left)) (sym (c .before .good-parts .ensures) ∙ not-true _ (c .if3 .taken)), c .before .before .before .before .before .before .before .before .before .before .before .pre .3)
 
 no-clash-requires : tie.Need-no-clash-requires
 no-clash-requires c κs = search needs
 
+same-length : tie.Need-same-length
+same-length c =
+    c .before .before .before .before .no-clash .ensures .1 .firsts ∙ sym (c .before .before .before .before .before .before .before .before .before .before .before .before .before .before .before .before .before .before .pre .3 .firsts)
+
+same-length-2 : tie.Need-same-length-2
+same-length-2 c =
+    c .before .before .before .before .no-clash .ensures .1 .nexts ∙ sym (c .before .before .before .before .before .before .before .before .before .before .before .before .before .before .before .before .before .before .pre .3 .nexts)
+
 returns-4 : tie.Need-returns-4
-returns-4 c = c .no-clash .ensures ∙ row-last _ _ _ _ (c .before .before .before .before .before .before .before .before .read-row .ensures) (ap (goodText _) (sym (c .before .before .before .before .before .before .before .string-of .ensures)) ∙ sym (c .before .before .before .before .before .before .good-text .ensures) ∙ not-false _ (c .before .before .before .before .before .if1 .left)) (sym (c .before .before .before .before .good-numbers .ensures) ∙ not-false _ (c .before .before .before .if2 .left)) (sym (c .before .before .good-parts .ensures) ∙ not-false _ (c .before .if3 .left))
+returns-4 c =
+    (c .before .before .before .before .no-clash .ensures .0 ∙ row-last _ _ _ (ap (goodText _) (sym (c .before .before .before .before .before .before .before .before .before .before .before .before .before .string-of .ensures)) ∙ sym (c .before .before .before .before .before .before .before .before .before .before .before .before .good-text .ensures _ (c .before .before .before .before .before .before .before .before .before .before .before .before .before .before .kind-number .ensures)) ∙ not-false _ (c .before .before .before .before .before .before .before .before .before .before .before .if1 .left)) (sym (c .before .before .before .before .before .before .before .before .before .before .good-numbers .ensures) ∙ not-false _ (c .before .before .before .before .before .before .before .before .before .if2 .left)) (sym (c .before .before .before .before .before .before .before .before .good-parts .ensures) ∙ not-false _ (c .before .before .before .before .before .before .before .if3 .left)), c .before .before .before .before .no-clash .ensures .1)
 
 pub good-row-spec : {M : Type 1} → statement M
-good-row-spec = tie.close (tie.spec read-row-requires string-of-requires good-text-requires returns good-numbers-requires returns-2 good-parts-requires returns-3 no-clash-requires returns-4)
+good-row-spec =
+    tie.close
+    (tie.spec
+    kind-number-requires
+    string-of-requires
+    good-text-requires
+    returns
+    good-numbers-requires
+    returns-2
+    good-parts-requires
+    returns-3
+    no-clash-requires
+    same-length
+    same-length-2
+    returns-4)

@@ -11,21 +11,21 @@ is-kind-requires c κs = search needs
 
 returns : tie.Need-returns
 unfolding hasOne
-returns c = rw (sym (c .before .is-kind .ensures) ∙ c .if1 .taken)
+returns c = λ k e. rw (sym (c .before .is-kind .ensures k e) ∙ c .if1 .taken)
 
 is-kind-requires-2 : tie.Need-is-kind-requires-2
 is-kind-requires-2 c κs = search needs
 
 returns-2 : tie.Need-returns-2
 unfolding hasOne
-returns-2 c = rw (sym (c .before .before .before .is-kind .ensures) ∙ c .before .before .if1 .left, sym (c .before .is-kind2 .ensures) ∙ c .if2 .taken)
+returns-2 c = λ k e. rw (sym (c .before .before .before .is-kind .ensures k e) ∙ c .before .before .if1 .left, sym (c .before .is-kind2 .ensures k e) ∙ c .if2 .taken)
 
 is-kind-requires-3 : tie.Need-is-kind-requires-3
 is-kind-requires-3 c κs = search needs
 
 returns-3 : tie.Need-returns-3
 unfolding hasOne
-returns-3 c = rw (sym (c .before .before .before .before .is-kind .ensures) ∙ c .before .before .before .if1 .left, sym (c .before .before .is-kind2 .ensures) ∙ c .before .if2 .left) (c .is-kind3 .ensures)
+returns-3 c = λ k e. rw (sym (c .before .before .before .before .is-kind .ensures k e) ∙ c .before .before .before .if1 .left, sym (c .before .before .is-kind2 .ensures k e) ∙ c .before .if2 .left) (c .is-kind3 .ensures k e)
 
 pub has-one-spec : {M : Type 1} → statement M
 has-one-spec =

@@ -14,7 +14,7 @@ is-kind-requires c κs = search needs
 
 returns : tie.Need-returns
 unfolding isAliasOf
-returns c = rw (sym (c .before .before .is-definition .ensures) ∙ c .before .if1 .taken) (c .is-kind .ensures)
+returns c = λ a k e f. rw (sym (c .before .before .is-definition .ensures a e) ∙ c .before .if1 .taken) (c .is-kind .ensures k f)
 
 is-kind-requires-2 : tie.Need-is-kind-requires-2
 is-kind-requires-2 c κs = search needs
@@ -24,11 +24,11 @@ is-kind-requires-3 c κs = search needs
 
 returns-2 : tie.Need-returns-2
 unfolding isAliasOf
-returns-2 c = rw (sym (c .before .before .before .before .is-definition .ensures) ∙ c .before .before .before .if1 .left, sym (c .before .before .is-kind2 .ensures) ∙ c .before .if2 .taken) (c .is-kind3 .ensures)
+returns-2 c = λ a k e f. rw (sym (c .before .before .before .before .is-definition .ensures a e) ∙ c .before .before .before .if1 .left, sym (c .before .before .is-kind2 .ensures a e) ∙ c .before .if2 .taken) (c .is-kind3 .ensures k f)
 
 returns-3 : tie.Need-returns-3
 unfolding isAliasOf
-returns-3 c = rw (sym (c .before .before .before .is-definition .ensures) ∙ c .before .before .if1 .left, sym (c .before .is-kind2 .ensures) ∙ c .if2 .left)
+returns-3 c = λ a k e f. rw (sym (c .before .before .before .is-definition .ensures a e) ∙ c .before .before .if1 .left, sym (c .before .is-kind2 .ensures a e) ∙ c .if2 .left)
 
 pub is-alias-of-spec : {M : Type 1} → statement M
 is-alias-of-spec =

@@ -8,12 +8,9 @@ use Rattle.resolve.proofs.kinds.is_kind.Tie as tie
 number-requires : tie.Need-number-requires
 number-requires c κs = search needs
 
-number-requires-2 : tie.Need-number-requires-2
-number-requires-2 c κs = search needs
-
 returns : tie.Need-returns
 unfolding isKind
-returns c = cc
+returns c = λ k e. cc
 
 pub is-kind-spec : {M : Type 1} → statement M
-is-kind-spec = tie.close (tie.spec number-requires number-requires-2 returns)
+is-kind-spec = tie.close (tie.spec number-requires returns)

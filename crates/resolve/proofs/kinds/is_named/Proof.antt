@@ -11,14 +11,14 @@ is-definition-requires c κs = search needs
 
 returns : tie.Need-returns
 unfolding isNamed
-returns c = rw (sym (c .before .is-definition .ensures) ∙ c .if1 .taken)
+returns c = λ k e. rw (sym (c .before .is-definition .ensures k e) ∙ c .if1 .taken)
 
 is-kind-requires : tie.Need-is-kind-requires
 is-kind-requires c κs = search needs
 
 returns-2 : tie.Need-returns-2
 unfolding isNamed
-returns-2 c = rw (sym (c .before .before .is-definition .ensures) ∙ c .before .if1 .left) (c .is-kind .ensures)
+returns-2 c = λ k e. rw (sym (c .before .before .is-definition .ensures k e) ∙ c .before .if1 .left) (c .is-kind .ensures k e)
 
 pub is-named-spec : {M : Type 1} → statement M
 is-named-spec = tie.close (tie.spec is-definition-requires returns is-kind-requires returns-2)

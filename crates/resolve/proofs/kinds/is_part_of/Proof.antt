@@ -14,7 +14,7 @@ is-kind-requires-2 c κs = search needs
 
 returns : tie.Need-returns
 unfolding isPartOf
-returns c = rw (sym (c .before .before .is-kind .ensures) ∙ c .before .if1 .taken) (c .is-kind2 .ensures)
+returns c = λ a k e f. rw (sym (c .before .before .is-kind .ensures a e) ∙ c .before .if1 .taken) (c .is-kind2 .ensures k f)
 
 is-kind-requires-3 : tie.Need-is-kind-requires-3
 is-kind-requires-3 c κs = search needs
@@ -24,7 +24,7 @@ is-kind-requires-4 c κs = search needs
 
 returns-2 : tie.Need-returns-2
 unfolding isPartOf
-returns-2 c = rw (sym (c .before .before .before .before .is-kind .ensures) ∙ c .before .before .before .if1 .left, sym (c .before .before .is-kind3 .ensures) ∙ c .before .if2 .taken) (c .is-kind4 .ensures)
+returns-2 c = λ a k e f. rw (sym (c .before .before .before .before .is-kind .ensures a e) ∙ c .before .before .before .if1 .left, sym (c .before .before .is-kind3 .ensures a e) ∙ c .before .if2 .taken) (c .is-kind4 .ensures k f)
 
 is-kind-requires-5 : tie.Need-is-kind-requires-5
 is-kind-requires-5 c κs = search needs
@@ -34,7 +34,7 @@ is-member-requires c κs = search needs
 
 returns-3 : tie.Need-returns-3
 unfolding isPartOf
-returns-3 c = rw (sym (c .before .before .before .before .before .before .is-kind .ensures) ∙ c .before .before .before .before .before .if1 .left, sym (c .before .before .before .before .is-kind3 .ensures) ∙ c .before .before .before .if2 .left, sym (c .before .before .is-kind5 .ensures) ∙ c .before .if3 .taken) (c .is-member .ensures)
+returns-3 c = λ a k e f. rw (sym (c .before .before .before .before .before .before .is-kind .ensures a e) ∙ c .before .before .before .before .before .if1 .left, sym (c .before .before .before .before .is-kind3 .ensures a e) ∙ c .before .before .before .if2 .left, sym (c .before .before .is-kind5 .ensures a e) ∙ c .before .if3 .taken) (c .is-member .ensures k f)
 
 has-one-requires : tie.Need-has-one-requires
 has-one-requires c κs = search needs
@@ -44,11 +44,11 @@ is-schema-requires c κs = search needs
 
 returns-4 : tie.Need-returns-4
 unfolding isPartOf
-returns-4 c = rw (sym (c .before .before .before .before .before .before .before .before .is-kind .ensures) ∙ c .before .before .before .before .before .before .before .if1 .left, sym (c .before .before .before .before .before .before .is-kind3 .ensures) ∙ c .before .before .before .before .before .if2 .left, sym (c .before .before .before .before .is-kind5 .ensures) ∙ c .before .before .before .if3 .left, sym (c .before .before .has-one .ensures) ∙ c .before .if4 .taken) (c .is-schema .ensures)
+returns-4 c = λ a k e f. rw (sym (c .before .before .before .before .before .before .before .before .is-kind .ensures a e) ∙ c .before .before .before .before .before .before .before .if1 .left, sym (c .before .before .before .before .before .before .is-kind3 .ensures a e) ∙ c .before .before .before .before .before .if2 .left, sym (c .before .before .before .before .is-kind5 .ensures a e) ∙ c .before .before .before .if3 .left, sym (c .before .before .has-one .ensures a e) ∙ c .before .if4 .taken) (c .is-schema .ensures k f)
 
 returns-5 : tie.Need-returns-5
 unfolding isPartOf
-returns-5 c = rw (sym (c .before .before .before .before .before .before .before .is-kind .ensures) ∙ c .before .before .before .before .before .before .if1 .left, sym (c .before .before .before .before .before .is-kind3 .ensures) ∙ c .before .before .before .before .if2 .left, sym (c .before .before .before .is-kind5 .ensures) ∙ c .before .before .if3 .left, sym (c .before .has-one .ensures) ∙ c .if4 .left)
+returns-5 c = λ a k e f. rw (sym (c .before .before .before .before .before .before .before .is-kind .ensures a e) ∙ c .before .before .before .before .before .before .if1 .left, sym (c .before .before .before .before .before .is-kind3 .ensures a e) ∙ c .before .before .before .before .if2 .left, sym (c .before .before .before .is-kind5 .ensures a e) ∙ c .before .before .if3 .left, sym (c .before .has-one .ensures a e) ∙ c .if4 .left)
 
 pub is-part-of-spec : {M : Type 1} → statement M
 is-part-of-spec =

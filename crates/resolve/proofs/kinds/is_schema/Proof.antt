@@ -8,11 +8,8 @@ use Rattle.resolve.proofs.kinds.is_schema.Tie as tie
 number-requires : tie.Need-number-requires
 number-requires c κs = search needs
 
-number-requires-2 : tie.Need-number-requires-2
-number-requires-2 c κs = search needs
-
 returns : tie.Need-returns
-returns c = cc (schema-number (c .before .before .args .k))
+returns c = λ k e. cc (schema-number k)
 
 pub is-schema-spec : {M : Type 1} → statement M
-is-schema-spec = tie.close (tie.spec number-requires number-requires-2 returns)
+is-schema-spec = tie.close (tie.spec number-requires returns)

@@ -11,11 +11,11 @@ has-one-requires c κs = search needs
 
 returns : tie.Need-returns
 unfolding mayEnd
-returns c = rw (sym (c .before .has-one .ensures) ∙ c .if1 .taken)
+returns c = λ k e. rw (sym (c .before .has-one .ensures k e) ∙ c .if1 .taken)
 
 returns-2 : tie.Need-returns-2
 unfolding mayEnd
-returns-2 c = rw (sym (c .before .has-one .ensures) ∙ c .if1 .left)
+returns-2 c = λ k e. rw (sym (c .before .has-one .ensures k e) ∙ c .if1 .left)
 
 pub may-end-spec : {M : Type 1} → statement M
 may-end-spec = tie.close (tie.spec has-one-requires returns returns-2)

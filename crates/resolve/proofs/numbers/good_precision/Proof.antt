@@ -14,11 +14,11 @@ limit-requires c κs = search needs
 
 returns : tie.Need-returns
 unfolding goodPrecision
-returns c = rw (sym (c .before .before .is-kind .ensures) ∙ c .before .if1 .taken, c .limit .ensures)
+returns c = λ k e. rw (sym (c .before .before .is-kind .ensures k e) ∙ c .before .if1 .taken, c .limit .ensures)
 
 returns-2 : tie.Need-returns-2
 unfolding goodPrecision
-returns-2 c = rw (sym (c .before .is-kind .ensures) ∙ c .if1 .left)
+returns-2 c = λ k e. rw (sym (c .before .is-kind .ensures k e) ∙ c .if1 .left)
 
 pub good-precision-spec : {M : Type 1} → statement M
 good-precision-spec = tie.close (tie.spec is-kind-requires limit-requires returns returns-2)

@@ -14,11 +14,11 @@ is-kind-requires c κs = search needs
 
 returns : tie.Need-returns
 unfolding goodSize
-returns c = rw (sym (c .before .is-kind .ensures) ∙ c .if1 .taken, lt-ltb (c .before .before .args .size) (2 ^ 64) (omega arith))
+returns c = λ k e. rw (sym (c .before .is-kind .ensures k e) ∙ c .if1 .taken, lt-ltb (c .before .before .args .size) (2 ^ 64) (omega arith))
 
 returns-2 : tie.Need-returns-2
 unfolding goodSize
-returns-2 c = rw (sym (c .before .is-kind .ensures) ∙ c .if1 .left)
+returns-2 c = λ k e. rw (sym (c .before .is-kind .ensures k e) ∙ c .if1 .left)
 
 pub good-size-spec : {M : Type 1} → statement M
 good-size-spec = tie.close (tie.spec is-kind-requires returns returns-2)

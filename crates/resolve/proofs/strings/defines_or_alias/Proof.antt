@@ -9,13 +9,13 @@ is-definition-requires : tie.Need-is-definition-requires
 is-definition-requires c κs = search needs
 
 returns : tie.Need-returns
-returns c = rw (sym (c .before .is-definition .ensures) ∙ c .if1 .taken)
+returns c = λ k e. rw (sym (c .before .is-definition .ensures k e) ∙ c .if1 .taken)
 
 is-kind-requires : tie.Need-is-kind-requires
 is-kind-requires c κs = search needs
 
 returns-2 : tie.Need-returns-2
-returns-2 c = rw (sym (c .before .before .is-definition .ensures) ∙ c .before .if1 .left) (c .is-kind .ensures)
+returns-2 c = λ k e. rw (sym (c .before .before .is-definition .ensures k e) ∙ c .before .if1 .left) (c .is-kind .ensures k e)
 
 pub defines-or-alias-spec : {M : Type 1} → statement M
 defines-or-alias-spec =

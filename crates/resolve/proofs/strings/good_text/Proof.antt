@@ -15,7 +15,7 @@ is-free-name-requires c κs = search needs
 
 returns : tie.Need-returns
 unfolding goodText
-returns c = rw (sym (c .before .before .defines-or-alias .ensures) ∙ c .before .if1 .taken) (c .is-free-name .ensures)
+returns c = λ k e. rw (sym (c .before .before .defines-or-alias .ensures k e) ∙ c .before .if1 .taken) (c .is-free-name .ensures)
 
 is-kind-requires : tie.Need-is-kind-requires
 is-kind-requires c κs = search needs
@@ -25,7 +25,7 @@ is-full-name-requires c κs = search needs
 
 returns-2 : tie.Need-returns-2
 unfolding goodText
-returns-2 c = rw (sym (c .before .before .before .before .defines-or-alias .ensures) ∙ c .before .before .before .if1 .left, sym (c .before .before .is-kind .ensures) ∙ c .before .if2 .taken) (c .is-full-name .ensures)
+returns-2 c = λ k e. rw (sym (c .before .before .before .before .defines-or-alias .ensures k e) ∙ c .before .before .before .if1 .left, sym (c .before .before .is-kind .ensures k e) ∙ c .before .if2 .taken) (c .is-full-name .ensures)
 
 has-own-name-requires : tie.Need-has-own-name-requires
 has-own-name-requires c κs = search needs
@@ -35,11 +35,11 @@ is-own-name-requires c κs = search needs
 
 returns-3 : tie.Need-returns-3
 unfolding goodText
-returns-3 c = rw (sym (c .before .before .before .before .before .before .defines-or-alias .ensures) ∙ c .before .before .before .before .before .if1 .left, sym (c .before .before .before .before .is-kind .ensures) ∙ c .before .before .before .if2 .left, sym (c .before .before .has-own-name .ensures) ∙ c .before .if3 .taken) (c .is-own-name .ensures)
+returns-3 c = λ k e. rw (sym (c .before .before .before .before .before .before .defines-or-alias .ensures k e) ∙ c .before .before .before .before .before .if1 .left, sym (c .before .before .before .before .is-kind .ensures k e) ∙ c .before .before .before .if2 .left, sym (c .before .before .has-own-name .ensures k e) ∙ c .before .if3 .taken) (c .is-own-name .ensures)
 
 returns-4 : tie.Need-returns-4
 unfolding goodText
-returns-4 c = rw (sym (c .before .before .before .before .before .defines-or-alias .ensures) ∙ c .before .before .before .before .if1 .left, sym (c .before .before .before .is-kind .ensures) ∙ c .before .before .if2 .left, sym (c .before .has-own-name .ensures) ∙ c .if3 .left) (no-bytes _)
+returns-4 c = λ k e. rw (sym (c .before .before .before .before .before .defines-or-alias .ensures k e) ∙ c .before .before .before .before .if1 .left, sym (c .before .before .before .is-kind .ensures k e) ∙ c .before .before .if2 .left, sym (c .before .has-own-name .ensures k e) ∙ c .if3 .left) (no-bytes _)
 
 pub good-text-spec : {M : Type 1} → statement M
 good-text-spec =
