@@ -4,6 +4,7 @@ use crate::pieces::least;
 use crate::pieces::opening;
 use crate::pieces::put;
 use row::Kind;
+use row::read::depth_at;
 use row::read::kind_at;
 use row::read::read_row;
 use row::read::string_of;
@@ -14,7 +15,6 @@ ghost use Prim.Native.Nat.{_+_, _≤_, _<_};
 ghost use lib.ListN.{length};
 ghost use Rattle.ground.specs.Ascii.{ascii};
 ghost use Rattle.row.specs.Layout.{rowLimit, layoutLength};
-ghost use Rattle.row.specs.Memory.{entryAt};
 ghost use Rattle.canonical.specs.Canonical.{isWritten};
 ghost use Rattle.canonical.specs.Walk.{pieceText, partsText, isUnder, isPart, textLimit};
 ghost use Rattle.canonical.specs.Wrote.{Wrote};
@@ -28,14 +28,6 @@ fn is_written(kind: Kind) -> bool
         Kind::FieldAlias => false,
         _ => true,
     }
-}
-
-fn depth_at(mem: &[u8], i: usize) -> usize
-    requires { ⌜ (length (now mem) ≡ layoutLength) × (i < rowLimit) ⌝ }
-    ensures { λ r. ⌜ (r ≡ entryAt (now (mem .entry)) i .depth) × (r < 65536) ⌝ }
-{
-    let e = read_row(mem, i);
-    e.depth as usize
 }
 
 // Does row i, like all rows between, still stand under the row of a depth?
