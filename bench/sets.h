@@ -6,7 +6,7 @@
 #include <string.h>
 
 enum { LENGTH = 51266, ROWS = 66, ROW = 34, STRINGS = 34882 };
-enum { INT = 3, REFERENCE = 16, RECORD = 32, FIELD = 40 };
+enum { INT = 3, REFERENCE = 16, ARRAY = 24, UNION = 26, RECORD = 32, ENUM = 33, FIXED = 34, FIELD = 40, SYMBOL = 41, FIELD_ALIAS = 49 };
 
 struct set {
     uint8_t bytes[LENGTH];

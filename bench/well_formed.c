@@ -25,6 +25,60 @@ static void measure(const char *name, const struct set *s) {
     compare(name, ours, read_once, s->bytes, LENGTH);
 }
 
+/* ---- growth: rows in one record, one enum, one union of fixeds */
+
+static void enum_rows(struct set *s, unsigned n) {
+    char name[64];
+    declaration(s);
+    row(s, ENUM, 0, "a.Opcode");
+    for (unsigned i = 1; i < n; i++) {
+        sprintf(name, "OPCODE_%u", i);
+        row(s, SYMBOL, 1, name);
+    }
+}
+
+static void union_rows(struct set *s, unsigned n) {
+    char name[64];
+    declaration(s);
+    row(s, UNION, 0, "");
+    for (unsigned i = 1; i < n; i++) {
+        sprintf(name, "a.Fixed%u", i);
+        row(s, FIXED, 1, name);
+    }
+}
+
+static void record_rows(struct set *s, unsigned n) { record(s, "a.Summary", (n - 1) / 2, "field_"); }
+
+static double best_of(const struct set *s) {
+    double best = 1e18;
+    int times = calls(ours, s->bytes, LENGTH);
+    for (int round = 0; round < 15; round++) {
+        double t = nanoseconds(ours, s->bytes, LENGTH, times);
+        if (t < best) best = t;
+    }
+    return best;
+}
+
+/* 256, 512 and 1,023 rows, and how much longer each takes than the one before. */
+static void growth(const char *name, void (*fill)(struct set *, unsigned)) {
+    static struct set s;
+    unsigned rows[] = {256, 512, 1023};
+    double before = 0;
+    for (int i = 0; i < 3; i++) {
+        memset(&s, 0, sizeof s);
+        fill(&s, rows[i]);
+        if (!ours(s.bytes, LENGTH)) {
+            printf("%s is refused\n", name);
+            return;
+        }
+        double t = best_of(&s);
+        printf("growth, %-16s %5u rows  %8.2f us", name, s.rows, t / 1000);
+        if (before > 0) printf("  %5.2f times the half", t / before);
+        printf("\n");
+        before = t;
+    }
+}
+
 int main(void) {
     static struct set empty, small, flat, many, alike;
     measure("check, empty set", &empty);
@@ -40,5 +94,8 @@ int main(void) {
     measure("check, 32 declarations", &many);
     record(&alike, "a.Summary", 160, "a_long_equal_beginning_of_sixty_letters_or_so_that_names_share_");
     measure("check, 160 long names", &alike);
+    growth("one record", record_rows);
+    growth("one enum", enum_rows);
+    growth("one union", union_rows);
     return 0;
 }
