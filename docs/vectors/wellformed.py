@@ -372,6 +372,64 @@ def decimals():
     return commands, printed
 
 
+# ---- names of one length that begin and end alike: what is told by a table of marks must not depend on them
+
+def alike(i):
+    return b"name_of_%03d_those_alike" % i
+
+
+def alike_sets():
+    """Sets with their verdicts, worked out by hand."""
+    names = [alike(i) for i in range(18)]
+
+    def fields(ns, depth=1):
+        return [r for n in ns for r in (fld(n, depth), R("int", depth + 1))]
+
+    def union(members):
+        return [R("union", 0)] + [R(k, 1, n) for k, n in members]
+
+    def enums(ns):
+        return [[R("enum", 0, n)] for n in ns]
+
+    inner = [fld(names[6]), R("record", 2, b"S")]
+    yield "fields", [[REC] + fields(names)], True
+    yield "the last field as the first", [[REC] + fields(names[:12] + names[:1])], False
+    yield "a field as the one before it", [[REC] + fields(names[:6] + names[5:12])], False
+    yield "a field as an earlier alias", [[REC] + fields(names[:6]) + [fld(names[6]), R("field alias", 2, names[9]), INT2] + fields(names[7:12])], False
+    yield "an alias as an earlier field", [[REC] + fields(names[:6]) + [fld(names[6]), R("field alias", 2, names[3]), INT2] + fields(names[7:12])], True
+    yield "aliases alike", [[REC] + [r for i in range(6) for r in (fld(names[i]), R("field alias", 2, names[17]), R("field alias", 2, names[14 + i % 3]), INT2)]], True
+    yield "fields of an inner record as those around it", [[REC] + fields(names[:6]) + inner + fields(names[:12], 3) + fields(names[7:12])], True
+    yield "a field twice in the inner record", [[REC] + fields(names[:6]) + inner + fields(names[:12] + names[7:8], 3) + fields(names[7:12])], False
+    yield "a field twice around the inner record", [[REC] + fields(names[:6]) + inner + fields(names[:12], 3) + fields(names[6:12])], False
+    yield "symbols", [[R("enum", 0, b"E")] + [R("symbol", 1, n) for n in names]], True
+    yield "a symbol twice", [[R("enum", 0, b"E")] + [R("symbol", 1, n) for n in names + names[3:4]]], False
+    yield "fixeds in a union, with other kinds", [union([("fixed", n) for n in names]) + [R("null", 1), R("int", 1), R("string", 1)]], True
+    yield "a fixed and a reference to it in a union", [union([("fixed", n) for n in names[:12]] + [("reference", names[4])])], False
+    yield "another's reference in a union", enums(names[12:13]) + [union([("fixed", n) for n in names[:12]] + [("reference", names[12])])], True
+    yield "two references alike in a union", enums(names[:12]) + [union([("reference", n) for n in names[:12] + names[:1]])], False
+    yield "two of one kind behind names in a union", [union([("fixed", n) for n in names[:12]]) + [R("null", 1), R("int", 1), R("null", 1)]], False
+    yield "definitions, each referred to", enums(names) + [[REC] + [r for i, n in enumerate(names) for r in (fld(b"x%d" % i), R("reference", 2, n))]], True
+    yield "a reference to none of them", enums(names[:12]) + [[R("array", 0), R("reference", 1, names[12])]], False
+    yield "a definition twice", enums(names[:12] + names[2:3]), False
+    yield "a reference before its definition", enums(names[:6]) + [[R("array", 0), R("reference", 1, names[6])]] + enums(names[6:12]), False
+
+
+def alike_lines():
+    """Commands, printed lines."""
+    commands, line = [], []
+    for name, ds, want in alike_sets():
+        mem = encode(ds)
+        assert well_formed(mem) == want, name
+        commands += ["c"] + store(mem) + ["j%04x" % LENGTH]
+        line.append("%d" % want)
+    commands.append("n")
+    # the first of them, the three digits of the fourteenth name damaged
+    mem = encode(next(alike_sets())[1])
+    at = STRINGS + len(REC[2]) + 13 * len(alike(0)) + 8
+    commands += ["c"] + store(mem) + ["d%04x0003" % at]
+    return commands, ["".join(line), damaged(mem, at, 3)]
+
+
 def damaged(mem, at, n):
     """The verdicts of the command d."""
     out = []
@@ -407,8 +465,9 @@ def main(which):
     for at, n in ranges:
         commands.append("d%04x%04x" % (at, n))
         printed.append(damaged(mem, at, n))
-    for whole, more in zip((commands, printed), decimals()):
-        whole += more
+    for lines in (decimals(), alike_lines()):
+        for whole, more in zip((commands, printed), lines):
+            whole += more
     lines = commands if which == "stdin" else printed
     sys.stdout.write("\n".join(lines) + "\n")
 
