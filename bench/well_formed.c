@@ -27,26 +27,19 @@ static void measure(const char *name, const struct set *s) {
 
 /* ---- growth: rows in one record, one enum, one union of fixeds */
 
-static void enum_rows(struct set *s, unsigned n) {
-    char name[64];
+/* A row, and n - 1 under it with names of their own. */
+static void rows_under(struct set *s, unsigned n, unsigned kind, const char *name, unsigned part, const char *prefix) {
+    char own[64];
     declaration(s);
-    row(s, ENUM, 0, "a.Opcode");
+    row(s, kind, 0, name);
     for (unsigned i = 1; i < n; i++) {
-        sprintf(name, "OPCODE_%u", i);
-        row(s, SYMBOL, 1, name);
+        sprintf(own, "%s%u", prefix, i);
+        row(s, part, 1, own);
     }
 }
 
-static void union_rows(struct set *s, unsigned n) {
-    char name[64];
-    declaration(s);
-    row(s, UNION, 0, "");
-    for (unsigned i = 1; i < n; i++) {
-        sprintf(name, "a.Fixed%u", i);
-        row(s, FIXED, 1, name);
-    }
-}
-
+static void enum_rows(struct set *s, unsigned n) { rows_under(s, n, ENUM, "a.Opcode", SYMBOL, "OPCODE_"); }
+static void union_rows(struct set *s, unsigned n) { rows_under(s, n, UNION, "", FIXED, "a.Fixed"); }
 static void record_rows(struct set *s, unsigned n) { record(s, "a.Summary", (n - 1) / 2, "field_"); }
 
 static double best_of(const struct set *s) {

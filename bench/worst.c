@@ -358,6 +358,44 @@ static void rows_under(unsigned kind, const char *name, unsigned part, unsigned 
     for (unsigned i = 0; i < n; i++) row(&before, part, 1, alike(i, ALIKE));
 }
 
+/* The same with the names that are kept. */
+static void names_under(unsigned kind, const char *name, unsigned part) {
+    declaration(&before);
+    row(&before, kind, 0, name);
+    for (unsigned i = 0; i < name_count; i++) row(&before, part, 1, names[i]);
+}
+
+/* Names of 18 bytes that differ in their middle alone: one mark of crates/chains. */
+static void names_with_one_middle(unsigned n) {
+    char name[32] = "beginsab__ends_all";
+    name_count = 0;
+    for (unsigned i = 0; i < n; i++) {
+        name[8] = LETTERS[i % 63];
+        name[9] = LETTERS[i / 63];
+        keep(name);
+    }
+}
+
+/* A number of crates/chains' marks: the slot of eight bytes alone. */
+static unsigned slot_of(const char *s) {
+    uint64_t w;
+    memcpy(&w, s, 8);
+    return (unsigned)((w % 4294967296 * 2654435761 / 2097152 % 2048 + w / 4294967296 * 2246822519 / 2097152 % 2048) % 2048);
+}
+
+/* n names of 16 bytes, of other marks, that have one slot there and end alike. */
+static void names_of_one_slot(unsigned n) {
+    char name[32] = "....xxxxxxxxxxxx";
+    name_count = 0;
+    for (unsigned i = 0; name_count < n; i++) {
+        name[0] = LETTERS[i % 53];
+        name[1] = LETTERS[i / 53 % 63];
+        name[2] = LETTERS[i / 3339 % 63];
+        name[3] = LETTERS[i / 210357 % 63];
+        if (slot_of(name) == 0) keep(name);
+    }
+}
+
 /* A union of n records, enums and fixeds in no order. */
 static void definitions(unsigned n) {
     static const unsigned kinds[] = {RECORD, ENUM, FIXED};
@@ -413,6 +451,17 @@ static void memories(void) {
     chain(1022, UNION, ARRAY);
     time_memory("memory, 511 unions deep");
     measure("canonical, 511 unions deep", LENGTH, canonical);
+    fresh();
+    names_with_one_middle(905);
+    names_under(UNION, "", FIXED);
+    time_memory("memory, union of 905 fixeds of one mark");
+    fresh();
+    names_under(ENUM, "E", SYMBOL);
+    time_memory("memory, 905 symbols of one mark");
+    fresh();
+    names_of_one_slot(1022);
+    names_under(UNION, "", FIXED);
+    time_memory("memory, union of 1,022 fixeds of one slot");
 }
 
 /* Calls that look names up in a full set. */
