@@ -1,13 +1,11 @@
 -- Strings that are entered in a table of marks as they are passed: the turns of the loops that ask it.
 -- Assumes nothing.
 use mathlib.Core.Path.{_≡_, refl, sym, ap, subst, _∙_}
-use mathlib.Core.Bool.{Bool, true, false, not, cond, _&&_}
+use mathlib.Core.Bool.{Bool, true, false, cond}
 use mathlib.Core.List.{List, [], _∷_, _++_, map, map-append, append-assoc, append-nil}
-use Prim.Native.Nat.{ℕ, _≤_}
-use native.Mathlib.Omega.{arith}
+use Prim.Native.Nat.{ℕ}
 use lib.ListN.{length}
 use Rattle.answer.specs.declared.refusal.Fault.{Fault}
-use Rattle.ground.proofs.Laws.{and-true}
 use Rattle.name.specs.Name.{isOneOf}
 use Rattle.view.specs.declared.space.Spot.{Spot}
 use Rattle.view.specs.declared.space.Spot.the-variants.{At, Nowhere}
@@ -18,33 +16,31 @@ use Rattle.view.specs.Members.{titlesOf}
 use Rattle.view.specs.Marks.{markOf}
 use Rattle.view.specs.Elements.{firstElement, nextElement, elementsAt, elements}
 use Rattle.view.proofs.Laws.{left-start, left-done, left-next}
-use Rattle.seen.specs.Seen.{slots, isMarked, entered, Holds}
-use Rattle.seen.proofs.Laws.{length-entered, holds-none, holds-more, unmarked-new}
+use Rattle.seen.specs.Seen.{Sized, isMarked, entered, Holds}
+use Rattle.seen.proofs.Laws.{length-entered, sized-as, holds-none, holds-more, unmarked-new}
 use Rattle.form.specs.declared.check.Check.{Check}
 use Rattle.form.specs.declared.check.Check.the-variants.{Fine, Bad}
-use Rattle.form.specs.Checks.{_then_, eachOf}
+use Rattle.form.specs.Checks.{_then_}
 use Rattle.form.specs.Spots.{onSpot, isObject, asText, aliasesIn, objectsAmong, fieldsIn}
-use Rattle.form.specs.Names.{simpleCheck}
 use Rattle.rules.specs.Unions.{before}
-use Rattle.rules.specs.Symbols.{symbolsNew, allNew}
+use Rattle.rules.specs.Symbols.{symbolsNew}
 use Rattle.rules.specs.Fields.{fieldNameAt, takenBy, takenAmong, enteredAll, fieldNamesCheck}
 use Rattle.rules.proofs.Earlier.{Passed, passed-start, passed-next, passed-before}
-use Rattle.rules.proofs.Listed.{fieldsLeft, fieldAfter, taken-snoc, fields-stop, fields-step, name-of, aliases-of}
+use Rattle.rules.proofs.Listed.{symbolsLeft, symbolAfter, symbols-stop, symbols-step, fieldsLeft, fieldAfter, taken-snoc, fields-stop, fields-step, name-of, aliases-of}
 
 -- ---- some strings entered
 
-length-all : (ss : List (List ℕ)) (table : List ℕ) → length (enteredAll table ss) ≡ length table
+pub length-all : (ss : List (List ℕ)) (table : List ℕ) → length (enteredAll table ss) ≡ length table
 unfolding enteredAll
 length-all [] table = refl
 length-all (s ∷ ss) table = length-all ss (entered table (markOf s)) ∙ length-entered table (markOf s)
 
-holds-all : (ss : List (List ℕ)) (table : List ℕ) (taken : List (List ℕ)) → Holds table taken → slots ≤ length table → Holds (enteredAll table ss) (taken ++ ss)
+holds-all : (ss : List (List ℕ)) (table : List ℕ) (taken : List (List ℕ)) → Holds table taken → Sized table → Holds (enteredAll table ss) (taken ++ ss)
 unfolding enteredAll
 holds-all [] table taken h l = rw append-nil h
 holds-all (s ∷ ss) table taken h l =
-    let k = length-entered table (markOf s) in
     subst (λ (z : List (List ℕ)). Holds (enteredAll (entered table (markOf s)) ss) z) (append-assoc taken (s ∷ []) ss)
-    (holds-all ss (entered table (markOf s)) (taken ++ (s ∷ [])) (holds-more h s l) (omega arith))
+    (holds-all ss (entered table (markOf s)) (taken ++ (s ∷ [])) (holds-more h s (l .least)) (sized-as l (length-entered table (markOf s))))
 
 -- one, then the others
 pub entered-first : (s : List ℕ) (ss : List (List ℕ)) (table : List ℕ) {table₁ table₂ : List ℕ} {m : ℕ} → m ≡ markOf s → table₁ ≡ entered table m
@@ -71,7 +67,7 @@ pub record Marked {A : Type 0} (t : List ℕ) (p : ℕ) (s : Spot) (table : List
   pub past : List ℕ
   pub passed : Passed t p s past
   pub held : Holds table (takes past)
-  pub long : length table ≡ 32768
+  pub sized : Sized table
   pub rest : left past (elementsAt t s) ≡ x
 
 module _ {A : Type 0} {t : List ℕ} {p : ℕ} {s : Spot} {table : List ℕ} (takes : List ℕ → List (List ℕ)) (left : List ℕ → List ℕ → A) {x : A}
@@ -97,86 +93,47 @@ module _ {A : Type 0} {t : List ℕ} {p : ℕ} {s : Spot} {table : List ℕ} (ta
       marked-on : (ss : List (List ℕ)) → takes (inv .past ++ (q ∷ [])) ≡ takes (inv .past) ++ ss → {table₁ : List ℕ} → table₁ ≡ enteredAll table ss
           → ((y : A) → join r y ≡ y) → {s′ : Spot} → s′ ≡ nextElement t q → Marked t p s′ table₁ takes left x
       marked-on ss more h passes {s′} g =
-          let l = inv .long in
           record {
             past = inv .past ++ (q ∷ []);
             passed = passed-next (inv .passed) e g;
-            held = rw (more, h) (holds-all ss table (takes (inv .past)) (inv .held) (omega arith));
-            long = ap length h ∙ length-all ss table ∙ inv .long;
+            held = rw (more, h) (holds-all ss table (takes (inv .past)) (inv .held) (inv .sized));
+            sized = sized-as (inv .sized) (ap length h ∙ length-all ss table);
             rest = sym (passes (left (inv .past ++ (q ∷ [])) (elementsAt t s′))) ∙ marked-step g;
           }
-
--- ---- 14
-
--- where all are new, 7 and 9 are left
-pub new-simple : (t : List ℕ) (taken : List (List ℕ)) (qs : List ℕ) → allNew t taken qs ≡ true → symbolsNew t taken qs ≡ eachOf (simpleCheck t) qs
-unfolding allNew symbolsNew eachOf
-new-simple t taken [] e = refl
-new-simple t taken (q ∷ qs) e =
-    let p = and-true (not (isOneOf taken (stringAt t q))) (allNew t (taken ++ (stringAt t q ∷ [])) qs) e in
-    rw (p .0) (ap (λ (c : Check). simpleCheck t q then c) (new-simple t (taken ++ (stringAt t q ∷ [])) qs (p .1)))
-
--- 7 and 9 for each: a loop whose answer for what is left is the whole
-module _ (t : List ℕ) {s : Spot} {x : Check} (inv : eachOf (simpleCheck t) (elementsAt t s) ≡ x) where
-  pub simples-done : s ≡ Nowhere → Fine ≡ x
-  unfolding eachOf
-  simples-done e = sym (ap (eachOf (simpleCheck t)) (left-done t e)) ∙ inv
-
-  module _ {p : ℕ} (e : s ≡ At p) {c : Check} (f : c ≡ simpleCheck t p) where
-    simples-step : {s′ : Spot} → s′ ≡ nextElement t p → (c then eachOf (simpleCheck t) (elementsAt t s′)) ≡ x
-    unfolding eachOf
-    simples-step g = rw f (sym (ap (eachOf (simpleCheck t)) (left-next t e g)) ∙ inv)
-
-    pub simples-bad : {y : Fault} → c ≡ Bad y → Bad y ≡ x
-    simples-bad g = rw g at (simples-step refl)
-
-    pub simples-on : c ≡ Fine → {s′ : Spot} → s′ ≡ nextElement t p → eachOf (simpleCheck t) (elementsAt t s′) ≡ x
-    simples-on g h = rw g at (simples-step h)
-
-abbrev pub newLeft : List ℕ → List ℕ → List ℕ → Bool
-newLeft t past qs = allNew t (map (stringAt t) past) qs
-
-abbrev namesOf : List ℕ → List ℕ → List (List ℕ)
-namesOf t past = map (stringAt t) past
-
-abbrev seenAfter : List ℕ → List ℕ → ℕ → Bool
-seenAfter t past q = isOneOf (map (stringAt t) past) (stringAt t q)
 
 -- what a mark that is new says of the string
 module _ (t : List ℕ) (q : ℕ) {table : List ℕ} {taken : List (List ℕ)} (h : Holds table taken) {m : ℕ} (e : m ≡ markOf (stringAt t q)) {b : Bool} (f : b ≡ isMarked table m) where
   pub unmarked : b ≡ false → false ≡ isOneOf taken (stringAt t q)
   unmarked g = sym (unmarked-new h (stringAt t q) e f g)
 
+-- ---- 14
+
+abbrev namesOf : List ℕ → List ℕ → List (List ℕ)
+namesOf t past = map (stringAt t) past
+
 module _ (t : List ℕ) where
-  new-stop : (qs : List ℕ) → newLeft t qs [] ≡ true
-  unfolding allNew
-  new-stop qs = refl
+  pub symbols-start : (p : ℕ) {s : Spot} {table : List ℕ} → Sized table → s ≡ firstElement t p
+      → Marked t p s table (namesOf t) (symbolsLeft t) (symbolsNew t [] (elements t p))
+  symbols-start p {s} {table} l e =
+      record { past = []; passed = passed-start t p e; held = holds-none table; sized = l; rest = ap (symbolsNew t []) (left-start t p e) }
 
-  new-step : (qs : List ℕ) (q : ℕ) (ps : List ℕ) → newLeft t qs (q ∷ ps) ≡ (not (seenAfter t qs q) && newLeft t (qs ++ (q ∷ [])) ps)
-  unfolding allNew
-  new-step qs q ps = ap (λ (l : List (List ℕ)). not (seenAfter t qs q) && allNew t l ps) (sym (map-append (stringAt t) qs (q ∷ [])))
-
-  pub new-start : (p : ℕ) {s : Spot} {table : List ℕ} → length table ≡ 32768 → s ≡ firstElement t p
-      → Marked t p s table (namesOf t) (newLeft t) (allNew t [] (elements t p))
-  new-start p {s} {table} l e = record { past = []; passed = passed-start t p e; held = holds-none table; long = l; rest = ap (allNew t []) (left-start t p e) }
-
-  module _ {p : ℕ} {s : Spot} {table : List ℕ} {x : Bool} (inv : Marked t p s table (namesOf t) (newLeft t) x) where
-    pub new-done : s ≡ Nowhere → true ≡ x
-    new-done e = marked-done (namesOf t) (newLeft t) inv true new-stop e
+  module _ {p : ℕ} {s : Spot} {table : List ℕ} {x : Check} (inv : Marked t p s table (namesOf t) (symbolsLeft t) x) where
+    pub symbols-done : s ≡ Nowhere → Fine ≡ x
+    symbols-done e = marked-done (namesOf t) (symbolsLeft t) inv Fine (symbols-stop t) e
 
     module _ {q : ℕ} (e : s ≡ At q) where
-      pub new-held : Holds table (map (stringAt t) (before q (elements t p)))
-      new-held = marked-held (namesOf t) (newLeft t) inv e
+      pub symbols-held : Holds table (map (stringAt t) (before q (elements t p)))
+      symbols-held = marked-held (namesOf t) (symbolsLeft t) inv e
 
-      module _ {r : Bool} (f : r ≡ seenAfter t (before q (elements t p)) q) where
-        pub new-not : r ≡ true → false ≡ x
-        new-not g = rw g at (marked-step (namesOf t) (newLeft t) inv e (seenAfter t) (λ b y. not b && y) new-step f refl)
+      module _ {r : Check} (f : r ≡ symbolAfter t (before q (elements t p)) q) where
+        pub symbols-bad : {y : Fault} → r ≡ Bad y → Bad y ≡ x
+        symbols-bad g = rw g at (marked-step (namesOf t) (symbolsLeft t) inv e (symbolAfter t) _then_ (symbols-step t) f refl)
 
-        pub new-on : r ≡ false → {table₁ : List ℕ} → table₁ ≡ entered table (markOf (stringAt t q)) → {s′ : Spot} → s′ ≡ nextElement t q
-            → Marked t p s′ table₁ (namesOf t) (newLeft t) x
+        pub symbols-on : r ≡ Fine → {table₁ : List ℕ} → table₁ ≡ entered table (markOf (stringAt t q)) → {s′ : Spot} → s′ ≡ nextElement t q
+            → Marked t p s′ table₁ (namesOf t) (symbolsLeft t) x
         unfolding enteredAll
-        new-on g h i =
-            marked-on (namesOf t) (newLeft t) inv e (seenAfter t) (λ b y. not b && y) new-step f (stringAt t q ∷ [])
+        symbols-on g h i =
+            marked-on (namesOf t) (symbolsLeft t) inv e (symbolAfter t) _then_ (symbols-step t) f (stringAt t q ∷ [])
             (map-append (stringAt t) (inv .past) (q ∷ [])) h (λ y. rw g) i
 
 -- ---- 11
@@ -185,7 +142,7 @@ abbrev takenHere : List ℕ → ℕ → List (List ℕ)
 takenHere t q = cond (isObject (shapeAt t q)) (takenBy t q) []
 
 module _ (t : List ℕ) where
-  pub fields-start : (p : ℕ) {s : Spot} {table : List ℕ} → length table ≡ 32768 → s ≡ firstElement t p
+  pub fields-start : (p : ℕ) {s : Spot} {table : List ℕ} → Sized table → s ≡ firstElement t p
       → Marked t p s table (takenAmong t) (fieldsLeft t) (fieldNamesCheck t [] (fieldsIn t p))
   unfolding fieldsIn takenAmong
   fields-start p {s} {table} l e =
@@ -193,7 +150,7 @@ module _ (t : List ℕ) where
         past = [];
         passed = passed-start t p e;
         held = holds-none table;
-        long = l;
+        sized = l;
         rest = ap (λ (l : List ℕ). fieldNamesCheck t [] (objectsAmong t l)) (left-start t p e);
       }
 

@@ -7,7 +7,7 @@ use Prim.Native.Nat.{ℕ, _+_, _-_, _<_, _≤_}
 use native.Mathlib.Nat.{sub-zero}
 use native.Mathlib.Omega.{arith}
 use lib.Dec.{eqb}
-use lib.ListN.{length, take, drop}
+use lib.ListN.{length, take, drop, length-take}
 use lib.Seq.{take-append-seam}
 use borrow.Author.Tests.{eq-eqb, ne-eqb}
 use Rattle.answer.specs.declared.refusal.Fault.{Fault}
@@ -18,7 +18,7 @@ use Rattle.name.specs.declared.qualify.Full.{Full}
 use Rattle.name.specs.declared.qualify.Full.the-variants.{Fits, TooLong}
 use Rattle.name.specs.Name.{isEmpty, hasDot, startsWithDot, fullName}
 use Rattle.name.specs.Full.{answerOf, bufferAfter}
-use Rattle.name.proofs.Laws.{length-full, too-long, buffer-length, fits-room, fits-front}
+use Rattle.name.proofs.Laws.{length-full, answer-long, too-long, buffer-length, buffer-long, fits-room, fits-front}
 use Rattle.row.specs.Kinds.{kindNumber}
 use Rattle.row.specs.declared.kind.Kind.{Kind}
 use Rattle.row.specs.declared.kind.Kind.the-variants.{Null, Boolean, Int, Long, Float, Double, Bytes, String, Reference, Array, Map, Union, Record, Enum, Fixed, Field, Symbol, Alias, FieldAlias}
@@ -39,7 +39,9 @@ use Rattle.form.specs.Checks.{fault, must}
 use Rattle.form.specs.Spots.{onSpot, asText}
 use Rattle.form.specs.Names.{fullAt, namespaceOf, definedAt}
 use Rattle.form.specs.Forms.{formOf, wordKind, found, foundOf}
-use Rattle.rules.specs.Unions.{Head, unnamed, called, clash, wordHead, definitionHead, headOf, headNumber, before, isNew, unionCheck}
+use Rattle.rules.specs.declared.unions.Apart.{Apart}
+use Rattle.rules.specs.declared.unions.Apart.the-variants as apart
+use Rattle.rules.specs.Unions.{Head, unnamed, called, clash, wordHead, definitionHead, headOf, headNumber, nameOf, byName, apartOf, nameAfter, before, isNew, unionCheck}
 use Rattle.form.proofs.Laws.{found-form, found-members}
 use Rattle.rules.proofs.Earlier.{some}
 
@@ -93,14 +95,19 @@ module _ (t : List ℕ) (q : ℕ) {k : Kind} (e : k ≡ wordKind (stringAt t q))
   number-primitive h g namespace =
       rw (ne-eqb (kindNumber (wordKind (stringAt t q))) 16 (λ z. g (number-word ∙ z ∙ sym h))) number-word
 
-  pub is-reference-yes : (namespace name : List ℕ) {r : ℕ} → r ≡ 16 → n ≡ r → {b : Bool} → b ≡ same (fullAt t namespace q) name
-      → b ≡ clash (wordHead t namespace q (wordKind (stringAt t q))) (called name)
-  unfolding clash
-  is-reference-yes namespace name h g i = rw (eq-eqb (kindNumber (wordKind (stringAt t q))) 16 (sym number-word ∙ g ∙ h)) i
+  -- the head of a string, in a namespace: by its full name, or by the number of its kind
+  pub apart-reference : (namespace : List ℕ) {r : ℕ} → r ≡ 16 → n ≡ r → {a : Full} (m : List ℕ) {m′ : List ℕ}
+      → (a ≡ answerOf (fullAt t namespace q)) × (m′ ≡ bufferAfter m (fullAt t namespace q)) → {x : Apart} → x ≡ byName a
+      → (x ≡ apartOf (wordHead t namespace q (wordKind (stringAt t q)))) × (m′ ≡ nameAfter m (wordHead t namespace q (wordKind (stringAt t q))))
+  unfolding apartOf nameAfter
+  apart-reference namespace h g m i j =
+      rw (eq-eqb (kindNumber (wordKind (stringAt t q))) 16 (sym number-word ∙ g ∙ h)) (j ∙ ap byName (i .0), i .1)
 
-  pub is-reference-no : (namespace name : List ℕ) {r : ℕ} → r ≡ 16 → (n ≡ r → ⊥) → false ≡ clash (wordHead t namespace q (wordKind (stringAt t q))) (called name)
-  unfolding clash
-  is-reference-no namespace name h g = rw (ne-eqb (kindNumber (wordKind (stringAt t q))) 16 (λ z. g (number-word ∙ z ∙ sym h)))
+  pub apart-primitive : (namespace : List ℕ) {r : ℕ} → r ≡ 16 → (n ≡ r → ⊥) → (m : List ℕ)
+      → (apart.Kind n ≡ apartOf (wordHead t namespace q (wordKind (stringAt t q)))) × (m ≡ nameAfter m (wordHead t namespace q (wordKind (stringAt t q))))
+  unfolding apartOf nameAfter
+  apart-primitive namespace h g m =
+      rw (ne-eqb (kindNumber (wordKind (stringAt t q))) 16 (λ z. g (number-word ∙ z ∙ sym h))) (ap apart.Kind number-word, refl)
 
 -- the head of a form, by its case
 module _ (t namespace : List ℕ) where
@@ -146,10 +153,6 @@ module _ (t namespace : List ℕ) where
       go (At q) = refl
       go Nowhere = refl
 
-pub clash-apart : (k : Kind) (name : List ℕ) → false ≡ clash (unnamed k) (called name)
-unfolding clash
-clash-apart k name = refl
-
 -- the kind that tells is the same in all namespaces
 word-free : (t namespace : List ℕ) (q : ℕ) (k : Kind) → headNumber (wordHead t [] q k) ≡ headNumber (wordHead t namespace q k)
 word-free t namespace q k = go (eqb (kindNumber k) 16)
@@ -171,25 +174,6 @@ number-free t namespace (form.Wrong f) = refl
 
 -- ---- full names
 
-module _ (t namespace : List ℕ) (q : ℕ) {w : List ℕ} (e : w ≡ stringAt t q) {a : Full} (m : List ℕ) {m′ : List ℕ}
-    (f : (a ≡ answerOf (fullName namespace w)) × (m′ ≡ bufferAfter m (fullName namespace w))) (name : List ℕ) (short : length name ≤ 255) where
-  pub named-long : a ≡ TooLong → false ≡ same (fullAt t namespace q) name
-  unfolding fullAt
-  named-long g =
-      let z = too-long (fullName namespace w) (sym (f .0) ∙ g) in
-      rw (← e) (sym (same-unlike (fullName namespace w) name (λ (i : length (fullName namespace w) ≡ length name). omega arith)))
-
-  module _ {k : ℕ} (g : a ≡ Fits k) (h : length m′ ≡ 255) where
-    as-long : length m ≡ 255
-    as-long = sym (ap length (f .1) ∙ buffer-length (fullName namespace w) m) ∙ h
-
-    pub named-room : k ≤ length m′
-    named-room = fits-room (fullName namespace w) m m′ a (f .0) (f .1) k g as-long
-
-    pub named-same : {b : Bool} → b ≡ same (take (k - 0) (drop 0 m′)) name → b ≡ same (fullAt t namespace q) name
-    unfolding fullAt
-    named-same i = i ∙ ap (λ (l : List ℕ). same l name) (fits-front (fullName namespace w) m m′ a (f .0) (f .1) k g as-long) ∙ rw e
-
 -- of a name at most a leading dot is dropped
 full-shrinks : (namespace s : List ℕ) → length s ≤ length (fullName namespace s) + 1
 full-shrinks namespace s = go (not (hasDot s) && not (isEmpty namespace)) (startsWithDot s) (length-full namespace s)
@@ -199,11 +183,18 @@ full-shrinks namespace s = go (not (hasDot s) && not (isEmpty namespace)) (start
     go false true e = omega arith
     go false false e = omega arith
 
-pub name-long : (t namespace : List ℕ) (q : ℕ) {n : ℕ} → n ≡ length (stringAt t q) → (name : List ℕ) → length name ≤ 255 → 256 < n → false ≡ same (fullAt t namespace q) name
-unfolding fullAt
-name-long t namespace q e name short l =
-    let z = full-shrinks namespace (stringAt t q) in
-    sym (same-unlike (fullName namespace (stringAt t q)) name (λ (i : length (fullName namespace (stringAt t q)) ≡ length name). omega arith))
+module _ (t namespace : List ℕ) (q : ℕ) (m : List ℕ) where
+  pub full-is : {u w : List ℕ} → u ≡ namespace → w ≡ stringAt t q → {a : Full} {m′ : List ℕ} → (a ≡ answerOf (fullName u w)) × (m′ ≡ bufferAfter m (fullName u w))
+      → (a ≡ answerOf (fullAt t namespace q)) × (m′ ≡ bufferAfter m (fullAt t namespace q))
+  unfolding fullAt
+  full-is d e f = rw (← d, ← e) f
+
+  pub full-long : {n : ℕ} → n ≡ length (stringAt t q) → 256 < n → (TooLong ≡ answerOf (fullAt t namespace q)) × (m ≡ bufferAfter m (fullAt t namespace q))
+  unfolding fullAt
+  full-long e l =
+      let z = full-shrinks namespace (stringAt t q) in
+      let k : 255 < length (fullName namespace (stringAt t q)) = omega arith in
+      (sym (answer-long (fullName namespace (stringAt t q)) k), sym (buffer-long (fullName namespace (stringAt t q)) m k))
 
 -- a string in a buffer that has room for it
 pub stored : (s m : List ℕ) {m′ : List ℕ} {n : ℕ} → (n ≡ length s) × (m′ ≡ store m 0 s) → n ≤ length m → take (n - 0) (drop 0 m′) ≡ s
@@ -211,39 +202,107 @@ stored s m e h =
     let w : 0 + length s ≤ length m = omega (arith, e .0, h) in
     rw (e .1, e .0, sub-zero, store-fits m 0 s w) (take-append-seam s (drop (0 + length s) m))
 
-empty-same : (name : List ℕ) → eqb (length name) 0 ≡ same [] name
-unfolding same
-empty-same [] = refl
-empty-same (x ∷ name) = ne-eqb (length (x ∷ name)) 0 (λ (e : length (x ∷ name) ≡ 0). omega arith)
+full-none : fullName [] [] ≡ []
+unfolding fullName hasDot startsWithDot isEmpty
+full-none = refl
 
-pub clash-empty : (name : List ℕ) → eqb (length name) 0 ≡ clash (called []) (called name)
-unfolding clash
-clash-empty name = empty-same name
+-- of a definition
+module _ (t enclosing : List ℕ) (m : Members) (p : ℕ) {z : Spot} (h : z ≡ asText t (m .namespace)) where
+  full-in : {z′ : Spot} → z ≡ z′ → fullAt t (onSpot z′ (stringAt t) enclosing) p ≡ definedAt t enclosing m p
+  unfolding definedAt namespaceOf
+  full-in i = ap (λ (x : Spot). fullAt t (onSpot x (stringAt t) enclosing) p) (sym i ∙ h)
 
-module _ (t enclosing : List ℕ) (m : Members) (name : List ℕ) {s : Spot} (e : s ≡ asText t (m .name)) where
-  clash-by : {s′ : Spot} → s ≡ s′
-      → clash (definitionHead t enclosing m) (called name)
-      ≡ clash (onSpot s′ (λ q. called (definedAt t enclosing m q)) (called [])) (called name)
-  unfolding definitionHead
-  clash-by g = ap (λ (x : Spot). clash (onSpot x (λ q. called (definedAt t enclosing m q)) (called [])) (called name)) (sym e ∙ g)
+module _ (t enclosing : List ℕ) (m : Members) (b : List ℕ) {b′ : List ℕ} {a : Full} {s : Spot} (e : s ≡ asText t (m .name)) where
+  named : {s′ : Spot} → s ≡ s′ → (a ≡ answerOf (onSpot s′ (definedAt t enclosing m) [])) × (b′ ≡ bufferAfter b (onSpot s′ (definedAt t enclosing m) []))
+      → (a ≡ answerOf (nameOf t enclosing m)) × (b′ ≡ bufferAfter b (nameOf t enclosing m))
+  unfolding nameOf
+  named g h = rw (← e, g) h
 
-  pub definition-nameless : s ≡ Nowhere → eqb (length name) 0 ≡ clash (definitionHead t enclosing m) (called name)
-  definition-nameless g = clash-empty name ∙ sym (clash-by g)
+  pub named-none : s ≡ Nowhere → (a ≡ answerOf (fullName [] [])) × (b′ ≡ bufferAfter b (fullName [] []))
+      → (a ≡ answerOf (nameOf t enclosing m)) × (b′ ≡ bufferAfter b (nameOf t enclosing m))
+  named-none g h = named g (h .0 ∙ ap answerOf full-none, h .1 ∙ ap (bufferAfter b) full-none)
 
   module _ {p : ℕ} (g : s ≡ At p) {z : Spot} (h : z ≡ asText t (m .namespace)) where
-    full-in : {z′ : Spot} → z ≡ z′ → same (definedAt t enclosing m p) name ≡ same (fullAt t (onSpot z′ (stringAt t) enclosing) p) name
-    unfolding definedAt namespaceOf
-    full-in i = ap (λ (x : Spot). same (fullAt t (onSpot x (stringAt t) enclosing) p) name) (sym h ∙ i)
+    pub named-in : z ≡ Nowhere → (a ≡ answerOf (fullAt t enclosing p)) × (b′ ≡ bufferAfter b (fullAt t enclosing p))
+        → (a ≡ answerOf (nameOf t enclosing m)) × (b′ ≡ bufferAfter b (nameOf t enclosing m))
+    named-in i j = named g (j .0 ∙ ap answerOf (full-in t enclosing m p h i), j .1 ∙ ap (bufferAfter b) (full-in t enclosing m p h i))
 
-    by-name : clash (definitionHead t enclosing m) (called name) ≡ same (definedAt t enclosing m p) name
-    unfolding clash
-    by-name = clash-by g
+    pub named-within : {q : ℕ} → z ≡ At q → (a ≡ answerOf (fullAt t (stringAt t q) p)) × (b′ ≡ bufferAfter b (fullAt t (stringAt t q) p))
+        → (a ≡ answerOf (nameOf t enclosing m)) × (b′ ≡ bufferAfter b (nameOf t enclosing m))
+    named-within i j = named g (j .0 ∙ ap answerOf (full-in t enclosing m p h i), j .1 ∙ ap (bufferAfter b) (full-in t enclosing m p h i))
 
-    pub definition-in : z ≡ Nowhere → {b : Bool} → b ≡ same (fullAt t enclosing p) name → b ≡ clash (definitionHead t enclosing m) (called name)
-    definition-in i j = j ∙ sym (by-name ∙ full-in i)
+-- ---- what tells a head apart
 
-    pub definition-within : {q : ℕ} → z ≡ At q → {b : Bool} → b ≡ same (fullAt t (stringAt t q) p) name → b ≡ clash (definitionHead t enclosing m) (called name)
-    definition-within i j = j ∙ sym (by-name ∙ full-in i)
+module _ (m : List ℕ) {m′ : List ℕ} {x : Apart} where
+  pub apart-is : {g h : Head} → g ≡ h → (x ≡ apartOf g) × (m′ ≡ nameAfter m g) → (x ≡ apartOf h) × (m′ ≡ nameAfter m h)
+  apart-is e f = rw (← e) f
+
+  pub apart-called : {a : Full} (s : List ℕ) → (a ≡ answerOf s) × (m′ ≡ bufferAfter m s) → x ≡ byName a → (x ≡ apartOf (called s)) × (m′ ≡ nameAfter m (called s))
+  unfolding apartOf nameAfter
+  apart-called s e f = (f ∙ ap byName (e .0), e .1)
+
+pub apart-none : (m : List ℕ) {a : Full} {m′ : List ℕ} {x : Apart} → (a ≡ answerOf (fullName [] [])) × (m′ ≡ bufferAfter m (fullName [] [])) → x ≡ byName a
+    → (x ≡ apartOf (called [])) × (m′ ≡ nameAfter m (called []))
+apart-none m e f = apart-called m [] (e .0 ∙ ap answerOf full-none, e .1 ∙ ap (bufferAfter m) full-none) f
+
+pub apart-kind : (k : Kind) {n : ℕ} → n ≡ kindNumber k → (m : List ℕ) → (apart.Kind n ≡ apartOf (unnamed k)) × (m ≡ nameAfter m (unnamed k))
+unfolding apartOf nameAfter
+apart-kind k e m = (ap apart.Kind e, refl)
+
+pub definition-called : (t namespace : List ℕ) (m : Members) → called (nameOf t namespace m) ≡ definitionHead t namespace m
+unfolding nameOf definitionHead
+definition-called t namespace m = go (asText t (m .name))
+  where
+    go : (s : Spot) → called (onSpot s (definedAt t namespace m) []) ≡ onSpot s (λ q. called (definedAt t namespace m q)) (called [])
+    go (At q) = refl
+    go Nowhere = refl
+
+-- by the answer: a full name that is in the buffer, one that is too long, a kind
+module _ (m : List ℕ) {m′ : List ℕ} (l : length m′ ≡ 255) where
+  name-full : (s : List ℕ) → m′ ≡ bufferAfter m s → (a : Full) → answerOf s ≡ a → {n : ℕ} → byName a ≡ apart.Name n → (n ≤ length m′) × (take (n - 0) (drop 0 m′) ≡ s)
+  name-full s e (Fits j) f {n} g =
+      let h : j ≡ n = cc in
+      let k : length m ≡ 255 = sym (ap length e ∙ buffer-length s m) ∙ l in
+      (fits-room s m m′ (answerOf s) refl e n (f ∙ ap Fits h) k, fits-front s m m′ (answerOf s) refl e n (f ∙ ap Fits h) k)
+  name-full s e TooLong f g = let z : _≡_ {A = ℕ} 0 1 = cc in absurd (omega arith)
+
+  pub apart-name : (h : Head) {x : Apart} → (x ≡ apartOf h) × (m′ ≡ nameAfter m h) → {n : ℕ} → x ≡ apart.Name n → (n ≤ length m′) × (called (take (n - 0) (drop 0 m′)) ≡ h)
+  unfolding apartOf nameAfter
+  apart-name (unnamed k) e f = let z : _≡_ {A = ℕ} 0 1 = cc in absurd (omega arith)
+  apart-name (called s) e f = let r = name-full s (e .1) (answerOf s) refl (sym (e .0) ∙ f) in (r .0, ap called (r .1))
+
+  pub apart-short : (h : Head) {x : Apart} → (x ≡ apartOf h) × (m′ ≡ nameAfter m h) → {n : ℕ} → x ≡ apart.Name n → length (take (n - 0) (drop 0 m′)) ≤ 255
+  apart-short h e {n} f = let r = apart-name h e f .0 in let z = length-take (n - 0) (drop 0 m′) in omega arith
+
+-- a kind, and a full name that is too long, are no other's name
+module _ (h : Head) (name : List ℕ) {x : Apart} (e : x ≡ apartOf h) where
+  pub clash-kinded : {k : ℕ} → x ≡ apart.Kind k → false ≡ clash h (called name)
+  unfolding clash apartOf
+  clash-kinded {k} f = go h (sym e ∙ f)
+    where
+      named : (a : Full) → byName a ≡ apart.Kind k → ⊥
+      named (Fits n) g = let z : _≡_ {A = ℕ} 0 1 = cc in omega arith
+      named TooLong g = let z : _≡_ {A = ℕ} 0 1 = cc in omega arith
+
+      go : (h : Head) → apartOf h ≡ apart.Kind k → false ≡ clash h (called name)
+      go (unnamed j) g = refl
+      go (called s) g = absurd (named (answerOf s) g)
+
+  pub clash-long : length name ≤ 255 → x ≡ apart.LongName → false ≡ clash h (called name)
+  unfolding clash apartOf
+  clash-long l f = go h (sym e ∙ f)
+    where
+      long : (s : List ℕ) (a : Full) → answerOf s ≡ a → byName a ≡ apart.LongName → false ≡ same s name
+      long s (Fits n) g i = let z : _≡_ {A = ℕ} 0 1 = cc in absurd (omega arith)
+      long s TooLong g i = let z = too-long s g in sym (same-unlike s name (λ (j : length s ≡ length name). omega arith))
+
+      go : (h : Head) → apartOf h ≡ apart.LongName → false ≡ clash h (called name)
+      go (unnamed j) g = let z : _≡_ {A = ℕ} 0 1 = cc in absurd (omega arith)
+      go (called s) g = long s (answerOf s) refl g
+
+pub clash-called : (h : Head) (name : List ℕ) {s : List ℕ} → called s ≡ h → {b : Bool} → b ≡ same s name → b ≡ clash h (called name)
+unfolding clash
+clash-called h name e f = rw (← e) f
 
 -- ---- the members before
 

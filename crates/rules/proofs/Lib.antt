@@ -2,4 +2,5 @@ mod Earlier
 mod Listed
 mod Entering
 mod Heads
+mod Surely
 pub mod Laws

@@ -106,37 +106,9 @@ module _ (t : List ℕ) {s : Spot} {x : Check} (inv : stringsOf t (elementsAt t 
     pub strings-turn : b ≡ true → {s′ : Spot} → s′ ≡ nextElement t p → stringsOf t (elementsAt t s′) ≡ x
     strings-turn g h = rw (g, ← h) at strings-step
 
--- ---- checks in order that look at those passed
-
 then-join : (a b c : Check) → (a then (b then c)) ≡ ((a then b) then c)
 then-join Fine b c = refl
 then-join (Bad f) b c = refl
-
--- what is left of a check of all elements, given those that were passed, is the whole
-pub record Going (t : List ℕ) (p : ℕ) (s : Spot) (left : List ℕ → List ℕ → Check) (x : Check) : Type 0 where
-  pub past : List ℕ
-  pub passed : Passed t p s past
-  pub rest : left past (elementsAt t s) ≡ x
-
-module _ {t : List ℕ} {p : ℕ} {s : Spot} (left : List ℕ → List ℕ → Check) {x : Check} (inv : Going t p s left x) where
-  going-done : ((qs : List ℕ) → left qs [] ≡ Fine) → s ≡ Nowhere → Fine ≡ x
-  going-done stop e = sym (stop (inv .past)) ∙ sym (ap (left (inv .past)) (left-done t e)) ∙ inv .rest
-
-  -- the check of one element, by those before it in the array
-  module _ (one : List ℕ → ℕ → Check) (step : (qs : List ℕ) (q : ℕ) (ps : List ℕ) → left qs (q ∷ ps) ≡ (one qs q then left (qs ++ (q ∷ [])) ps))
-      {q : ℕ} (e : s ≡ At q) {r : Check} (f : r ≡ one (before q (elements t p)) q) where
-    going-step : {s′ : Spot} → s′ ≡ nextElement t q → (r then left (inv .past ++ (q ∷ [])) (elementsAt t s′)) ≡ x
-    going-step {s′} g =
-        ap (λ (c : Check). c then left (inv .past ++ (q ∷ [])) (elementsAt t s′)) (f ∙ ap (λ (l : List ℕ). one l q) (passed-before (inv .passed) e))
-        ∙ sym (step (inv .past) q (elementsAt t s′))
-        ∙ sym (ap (left (inv .past)) (left-next t e g))
-        ∙ inv .rest
-
-    going-bad : {y : Fault} → r ≡ Bad y → Bad y ≡ x
-    going-bad g = rw g at (going-step refl)
-
-    going-on : r ≡ Fine → {s′ : Spot} → s′ ≡ nextElement t q → Going t p s′ left x
-    going-on g h = record { past = inv .past ++ (q ∷ []); passed = passed-next (inv .passed) e h; rest = rw g at (going-step h) }
 
 -- ---- 14
 
@@ -155,30 +127,16 @@ module _ (t past : List ℕ) (q : ℕ) {c : Check} (e : c ≡ simpleCheck t q) w
   symbol-next f g h = rw (← e, f, ← g) h
 
 module _ (t : List ℕ) where
-  symbols-stop : (qs : List ℕ) → symbolsLeft t qs [] ≡ Fine
+  pub symbols-stop : (qs : List ℕ) → symbolsLeft t qs [] ≡ Fine
   unfolding symbolsNew
   symbols-stop qs = refl
 
-  symbols-step : (qs : List ℕ) (q : ℕ) (ps : List ℕ) → symbolsLeft t qs (q ∷ ps) ≡ (symbolAfter t qs q then symbolsLeft t (qs ++ (q ∷ [])) ps)
+  pub symbols-step : (qs : List ℕ) (q : ℕ) (ps : List ℕ) → symbolsLeft t qs (q ∷ ps) ≡ (symbolAfter t qs q then symbolsLeft t (qs ++ (q ∷ [])) ps)
   unfolding symbolsNew
   symbols-step qs q ps =
       then-join (simpleCheck t q) (must (not (isOneOf (map (stringAt t) qs) (stringAt t q))) (fault SymbolTwice q))
       (symbolsNew t (map (stringAt t) qs ++ (stringAt t q ∷ [])) ps)
       ∙ ap (λ (l : List (List ℕ)). symbolAfter t qs q then symbolsNew t l ps) (sym (map-append (stringAt t) qs (q ∷ [])))
-
-  pub symbols-start : (p : ℕ) {s : Spot} → s ≡ firstElement t p → Going t p s (symbolsLeft t) (symbolsNew t [] (elements t p))
-  symbols-start p e = record { past = []; passed = passed-start t p e; rest = ap (symbolsNew t []) (left-start t p e) }
-
-  module _ {p : ℕ} {s : Spot} {x : Check} (inv : Going t p s (symbolsLeft t) x) where
-    pub symbols-done : s ≡ Nowhere → Fine ≡ x
-    symbols-done e = going-done (symbolsLeft t) inv symbols-stop e
-
-    module _ {q : ℕ} (e : s ≡ At q) {r : Check} (f : r ≡ symbolAfter t (before q (elements t p)) q) where
-      pub symbols-bad : {y : Fault} → r ≡ Bad y → Bad y ≡ x
-      symbols-bad g = going-bad (symbolsLeft t) inv (symbolAfter t) symbols-step e f g
-
-      pub symbols-on : r ≡ Fine → {s′ : Spot} → s′ ≡ nextElement t q → Going t p s′ (symbolsLeft t) x
-      symbols-on g h = going-on (symbolsLeft t) inv (symbolAfter t) symbols-step e f g h
 
   module _ (p : ℕ) {c : Check} (e : c ≡ eachOf (λ q. must (isText (shapeAt t q)) (fault SymbolNotAString q)) (elements t p)) where
     pub symbols-not : {y : Fault} → c ≡ Bad y → Bad y ≡ symbolsCheck t (elements t p)

@@ -1,3 +1,4 @@
 pub mod Unions
 pub mod Fields
 pub mod Symbols
+pub mod Members

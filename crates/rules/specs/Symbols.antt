@@ -1,7 +1,7 @@
 -- Enum: all symbols strings, each symbol simple and new, default.
 -- Assumes nothing.
 use Prim.Native.Nat.{ℕ}
-use mathlib.Core.Bool.{Bool, true, not, cond, _&&_}
+use mathlib.Core.Bool.{not, cond}
 use mathlib.Core.List.{List, [], _∷_, _++_, map}
 use Rattle.answer.specs.declared.refusal.Why.the-variants.{SymbolNotAString, SymbolTwice, DefaultNotAString, DefaultNotASymbol}
 use Rattle.name.specs.Name.{isOneOf}
@@ -34,10 +34,3 @@ defaultCheck t default qs =
     cond (isText (shapeAt t v)) (must (isOneOf (map (stringAt t) qs) (stringAt t v)) (fault DefaultNotASymbol v))
     (Bad (fault DefaultNotAString v)))
     Fine
-
--- ---- what the code holds on the way
-
--- no string at qs is one of some strings, or of those before it
-unfoldable pub allNew : List ℕ → List (List ℕ) → List ℕ → Bool
-allNew t taken [] = true
-allNew t taken (q ∷ qs) = not (isOneOf taken (stringAt t q)) && allNew t (taken ++ (stringAt t q ∷ [])) qs

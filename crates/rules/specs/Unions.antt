@@ -19,6 +19,11 @@ use Rattle.form.specs.declared.forms.Form.{Form}
 use Rattle.form.specs.declared.forms.Form.the-variants as form
 use Rattle.rules.specs.declared.standing.Standing.{Standing}
 use Rattle.rules.specs.declared.standing.Standing.the-variants.{Alone, MemberOf}
+use Rattle.rules.specs.declared.unions.Apart.{Apart}
+use Rattle.rules.specs.declared.unions.Apart.the-variants as apart
+use Rattle.name.specs.declared.qualify.Full.{Full}
+use Rattle.name.specs.declared.qualify.Full.the-variants.{Fits, TooLong}
+use Rattle.name.specs.Full.{answerOf, bufferAfter}
 use Rattle.form.specs.Checks.{fault, must}
 use Rattle.form.specs.Spots.{onSpot, asText}
 use Rattle.form.specs.Names.{fullAt, definedAt}
@@ -81,3 +86,20 @@ unionCheck t namespace (MemberOf u p) h =
 abbrev pub headNumber : Head → ℕ
 headNumber (unnamed k) = kindNumber k
 headNumber (called a) = 0
+
+-- the full name of a definition, by the members of its object; one without a name has none
+unfoldable pub nameOf : List ℕ → List ℕ → Members → List ℕ
+nameOf t namespace m = onSpot (asText t (m .name)) (definedAt t namespace m) []
+
+-- what is answered of a head, and what the buffer then holds that full names go into
+abbrev pub byName : Full → Apart
+byName (Fits n) = apart.Name n
+byName TooLong = apart.LongName
+
+unfoldable pub apartOf : Head → Apart
+apartOf (unnamed k) = apart.Kind (kindNumber k)
+apartOf (called a) = byName (answerOf a)
+
+unfoldable pub nameAfter : List ℕ → Head → List ℕ
+nameAfter buffer (unnamed k) = buffer
+nameAfter buffer (called a) = bufferAfter buffer a

@@ -1,4 +1,5 @@
 // Field names in order: refused if equal to an earlier field's name or alias.
+use super::bytes::bytes_at;
 use answer::Why;
 use form::Check;
 use form::as_text;
@@ -6,8 +7,6 @@ use form::first_alias;
 use form::is_object;
 use form::must;
 use seen::enter;
-use seen::forget;
-use seen::is_marked;
 use view::Spot;
 use view::first_element;
 use view::mark;
@@ -24,7 +23,7 @@ ghost use Rattle.view.specs.Elements.{elements};
 ghost use Rattle.view.specs.Values.{shapeAt};
 ghost use Rattle.view.specs.Known.{Known};
 ghost use Rattle.view.specs.Marks.{markOf};
-ghost use Rattle.seen.specs.Seen.{isMarked, Holds};
+ghost use Rattle.seen.specs.Seen.{Sized, isMarked, Holds};
 ghost use Rattle.form.specs.declared.check.Check.the-variants.{Fine};
 ghost use Rattle.form.specs.Checks.{fault, must};
 ghost use Rattle.form.specs.Spots.{onSpot, isObject, asText, aliasesIn, fieldsIn};
@@ -104,9 +103,9 @@ fn is_taken(text: &[u8], ends: &[u16], array: usize, place: usize, at: usize) ->
 }
 
 // Enters the strings of `aliases`, whose value is at the place.
-fn enter_aliases(text: &[u8], ends: &[u16], aliases: Spot, word: &mut [u8; 32768])
-    requires { ⌜ Known (now text) (now ends) ⌝ }
-    ensures { λ _. ⌜ now (word .exit) ≡ enteredAll (now (word .entry)) (map (stringAt (now (text .entry))) (aliasesIn (now (text .entry)) aliases)) ⌝ }
+fn enter_aliases(text: &[u8], ends: &[u16], aliases: Spot, table: &mut [u64])
+    requires { ⌜ Known (now text) (now ends) × Sized (now table) ⌝ }
+    ensures { λ _. ⌜ now (table .exit) ≡ enteredAll (now (table .entry)) (map (stringAt (now (text .entry))) (aliasesIn (now (text .entry)) aliases)) ⌝ }
 {
     let mut spot = first_alias(text, ends, aliases);
     loop {
@@ -114,34 +113,27 @@ fn enter_aliases(text: &[u8], ends: &[u16], aliases: Spot, word: &mut [u8; 32768
             return;
         };
         let own = mark(text, ends, p);
-        enter(word, own);
+        enter(table, own);
         spot = next_element(text, ends, p);
     }
 }
 
 // Enters what a field takes, its name and its aliases. Was its name marked before?
-fn enter_names(
-    text: &[u8],
-    ends: &[u16],
-    name: usize,
-    aliases: Spot,
-    word: &mut [u8; 32768],
-) -> bool
-    requires { ⌜ Known (now text) (now ends) ⌝ }
-    ensures { λ r. ⌜ (r ≡ isMarked (now (word .entry)) (markOf (stringAt (now (text .entry)) name))) × (now (word .exit) ≡ enteredAll (now (word .entry)) (stringAt (now (text .entry)) name ∷ map (stringAt (now (text .entry))) (aliasesIn (now (text .entry)) aliases))) ⌝ }
+fn enter_names(text: &[u8], ends: &[u16], name: usize, aliases: Spot, table: &mut [u64]) -> bool
+    requires { ⌜ Known (now text) (now ends) × Sized (now table) ⌝ }
+    ensures { λ r. ⌜ (r ≡ isMarked (now (table .entry)) (markOf (stringAt (now (text .entry)) name))) × (now (table .exit) ≡ enteredAll (now (table .entry)) (stringAt (now (text .entry)) name ∷ map (stringAt (now (text .entry))) (aliasesIn (now (text .entry)) aliases))) ⌝ }
 {
     let own = mark(text, ends, name);
-    let was = is_marked(word, own);
-    enter(word, own);
-    enter_aliases(text, ends, aliases, word);
+    let was = enter(table, own);
+    enter_aliases(text, ends, aliases, table);
     was
 }
 
 // 11, for what stands at one place of the array: where it is no object it is no field. What the fields before it take is
 // entered; a name that is not marked is surely new, and for one that is they are asked.
-fn field_name(text: &[u8], ends: &[u16], array: usize, at: usize, word: &mut [u8; 32768]) -> Check
-    requires { ⌜ Known (now text) (now ends) × Holds (now word) (takenAmong (now text) (before at (elements (now text) array))) ⌝ }
-    ensures { λ r. ⌜ (r ≡ cond (isObject (shapeAt (now (text .entry)) at)) (must (not (isOneOf (takenAmong (now (text .entry)) (before at (elements (now (text .entry)) array))) (fieldName (now (text .entry)) at))) (fault FieldNameTaken (fieldNameAt (now (text .entry)) at))) Fine) × (now (word .exit) ≡ enteredAll (now (word .entry)) (cond (isObject (shapeAt (now (text .entry)) at)) (takenBy (now (text .entry)) at) [])) ⌝ }
+fn field_name(text: &[u8], ends: &[u16], array: usize, at: usize, table: &mut [u64]) -> Check
+    requires { ⌜ Known (now text) (now ends) × Sized (now table) × Holds (now table) (takenAmong (now text) (before at (elements (now text) array))) ⌝ }
+    ensures { λ r. ⌜ (r ≡ cond (isObject (shapeAt (now (text .entry)) at)) (must (not (isOneOf (takenAmong (now (text .entry)) (before at (elements (now (text .entry)) array))) (fieldName (now (text .entry)) at))) (fault FieldNameTaken (fieldNameAt (now (text .entry)) at))) Fine) × (now (table .exit) ≡ enteredAll (now (table .entry)) (cond (isObject (shapeAt (now (text .entry)) at)) (takenBy (now (text .entry)) at) [])) ⌝ }
 {
     if !is_object(text, at) {
         return Check::Fine;
@@ -150,7 +142,7 @@ fn field_name(text: &[u8], ends: &[u16], array: usize, at: usize, word: &mut [u8
     let spot = titles.name;
     let name = name_at(text, at, spot);
     let aliases = titles.aliases;
-    if !enter_names(text, ends, name, aliases, word) {
+    if !enter_names(text, ends, name, aliases, table) {
         return Check::Fine;
     }
     must(
@@ -160,20 +152,37 @@ fn field_name(text: &[u8], ends: &[u16], array: usize, at: usize, word: &mut [u8
     )
 }
 
-// 11, for the `fields` at a place.
-pub fn field_names(text: &[u8], ends: &[u16], array: usize, word: &mut [u8; 32768]) -> Check
-    requires { ⌜ Known (now text) (now ends) ⌝ }
+// 11, for the `fields` at a place, with an empty table.
+fn all_names(text: &[u8], ends: &[u16], array: usize, table: &mut [u64]) -> Check
+    requires { ⌜ Known (now text) (now ends) × Sized (now table) ⌝ }
     ensures { λ r. ⌜ r ≡ fieldNamesCheck (now (text .entry)) [] (fieldsIn (now (text .entry)) array) ⌝ }
 {
-    forget(word);
     let mut spot = first_element(text, array);
     loop {
         let Spot::At(p) = spot else {
             return Check::Fine;
         };
-        if let Check::Bad(f) = field_name(text, ends, array, p, word) {
+        if let Check::Bad(f) = field_name(text, ends, array, p, table) {
             return Check::Bad(f);
         }
         spot = next_element(text, ends, p);
     }
+}
+
+// 11, for the `fields` at a place. A short array needs a small table.
+pub fn field_names(text: &[u8], ends: &[u16], array: usize) -> Check
+    requires { ⌜ Known (now text) (now ends) ⌝ }
+    ensures { λ r. ⌜ r ≡ fieldNamesCheck (now (text .entry)) [] (fieldsIn (now (text .entry)) array) ⌝ }
+{
+    let long = bytes_at(text, ends, array);
+    if long < 1024 {
+        let mut few: [u64; 256] = [0; 256];
+        return all_names(text, ends, array, &mut few);
+    }
+    if long < 8192 {
+        let mut some: [u64; 2048] = [0; 2048];
+        return all_names(text, ends, array, &mut some);
+    }
+    let mut many: [u64; 8192] = [0; 8192];
+    all_names(text, ends, array, &mut many)
 }

@@ -1,4 +1,5 @@
 // The symbols of an enum: all strings, each simple and new; its default.
+use super::bytes::bytes_at;
 use answer::Fault;
 use answer::Why;
 use form::Check;
@@ -6,8 +7,6 @@ use form::is_text;
 use form::must;
 use form::simple_check;
 use seen::enter;
-use seen::forget;
-use seen::is_marked;
 use view::Spot;
 use view::first_element;
 use view::mark;
@@ -25,12 +24,12 @@ ghost use Rattle.view.specs.Strings.{stringAt};
 ghost use Rattle.view.specs.Elements.{elements};
 ghost use Rattle.view.specs.Known.{Known};
 ghost use Rattle.view.specs.Marks.{markOf};
-ghost use Rattle.seen.specs.Seen.{entered, Holds};
+ghost use Rattle.seen.specs.Seen.{Sized, entered, Holds};
 ghost use Rattle.form.specs.Checks.{fault, must, _then_, eachOf};
 ghost use Rattle.form.specs.Spots.{isText};
 ghost use Rattle.form.specs.Names.{simpleCheck};
 ghost use Rattle.rules.specs.Unions.{before};
-ghost use Rattle.rules.specs.Symbols.{symbolsNew, symbolsCheck, defaultCheck, allNew};
+ghost use Rattle.rules.specs.Symbols.{symbolsNew, symbolsCheck, defaultCheck};
 
 // 13: the first element that is no string.
 fn all_strings(text: &[u8], ends: &[u16], array: usize) -> Check
@@ -72,92 +71,76 @@ fn is_among(text: &[u8], ends: &[u16], array: usize, place: usize, at: usize) ->
     }
 }
 
-// A symbol: 7, 9, 14.
-fn symbol(text: &[u8], ends: &[u16], array: usize, at: usize, word: &mut [u8; 32768]) -> Check
-    requires { ⌜ (length (now text) ≤ 32768) × Known (now text) (now ends) ⌝ }
-    ensures { λ r. ⌜ r ≡ simpleCheck (now (text .entry)) at then must (not (isOneOf (map (stringAt (now (text .entry))) (before at (elements (now (text .entry)) array))) (stringAt (now (text .entry)) at))) (fault SymbolTwice at) ⌝ }
-{
-    match simple_check(text, ends, at, word) {
-        Check::Bad(f) => Check::Bad(f),
-        Check::Fine => must(!is_among(text, ends, array, at, at), Why::SymbolTwice, at),
-    }
-}
-
-// 7, 9, 14 for each, by the symbols before it.
-fn each_symbol(text: &[u8], ends: &[u16], array: usize, word: &mut [u8; 32768]) -> Check
-    requires { ⌜ (length (now text) ≤ 32768) × Known (now text) (now ends) ⌝ }
-    ensures { λ r. ⌜ r ≡ symbolsNew (now (text .entry)) [] (elements (now (text .entry)) array) ⌝ }
-{
-    let mut spot = first_element(text, array);
-    loop {
-        let Spot::At(p) = spot else {
-            return Check::Fine;
-        };
-        if let Check::Bad(f) = symbol(text, ends, array, p, word) {
-            return Check::Bad(f);
-        }
-        spot = next_element(text, ends, p);
-    }
-}
-
 // Enters the string at `at`. Is it one of the array's strings that stand before it, which are entered?
-fn enter_symbol(text: &[u8], ends: &[u16], array: usize, at: usize, word: &mut [u8; 32768]) -> bool
-    requires { ⌜ Known (now text) (now ends) × Holds (now word) (map (stringAt (now text)) (before at (elements (now text) array))) ⌝ }
-    ensures { λ r. ⌜ (r ≡ isOneOf (map (stringAt (now (text .entry))) (before at (elements (now (text .entry)) array))) (stringAt (now (text .entry)) at)) × (now (word .exit) ≡ entered (now (word .entry)) (markOf (stringAt (now (text .entry)) at))) ⌝ }
+fn enter_symbol(text: &[u8], ends: &[u16], array: usize, at: usize, table: &mut [u64]) -> bool
+    requires { ⌜ Known (now text) (now ends) × Sized (now table) × Holds (now table) (map (stringAt (now text)) (before at (elements (now text) array))) ⌝ }
+    ensures { λ r. ⌜ (r ≡ isOneOf (map (stringAt (now (text .entry))) (before at (elements (now (text .entry)) array))) (stringAt (now (text .entry)) at)) × (now (table .exit) ≡ entered (now (table .entry)) (markOf (stringAt (now (text .entry)) at))) ⌝ }
 {
     let own = mark(text, ends, at);
-    let was = is_marked(word, own);
-    enter(word, own);
-    if was {
+    if enter(table, own) {
         return is_among(text, ends, array, at, at);
     }
     false
 }
 
-// Is no string of the array one of those before it?
-fn all_new(text: &[u8], ends: &[u16], array: usize, word: &mut [u8; 32768]) -> bool
-    requires { ⌜ Known (now text) (now ends) ⌝ }
-    ensures { λ r. ⌜ r ≡ allNew (now (text .entry)) [] (elements (now (text .entry)) array) ⌝ }
+// A symbol: 7, 9, 14.
+fn symbol(
+    text: &[u8],
+    ends: &[u16],
+    array: usize,
+    at: usize,
+    table: &mut [u64],
+    word: &mut [u8; 32768],
+) -> Check
+    requires { ⌜ (length (now text) ≤ 32768) × Known (now text) (now ends) × Sized (now table) × Holds (now table) (map (stringAt (now text)) (before at (elements (now text) array))) ⌝ }
+    ensures { λ r. ⌜ (r ≡ simpleCheck (now (text .entry)) at then must (not (isOneOf (map (stringAt (now (text .entry))) (before at (elements (now (text .entry)) array))) (stringAt (now (text .entry)) at))) (fault SymbolTwice at)) × (now (table .exit) ≡ entered (now (table .entry)) (markOf (stringAt (now (text .entry)) at))) ⌝ }
 {
-    forget(word);
-    let mut spot = first_element(text, array);
-    loop {
-        let Spot::At(p) = spot else {
-            return true;
-        };
-        if enter_symbol(text, ends, array, p, word) {
-            return false;
-        }
-        spot = next_element(text, ends, p);
+    let twice = enter_symbol(text, ends, array, at, table);
+    match simple_check(text, ends, at, word) {
+        Check::Bad(f) => Check::Bad(f),
+        Check::Fine => must(!twice, Why::SymbolTwice, at),
     }
 }
 
-// 7 and 9 for each: where all are new there is no 14.
-fn each_simple(text: &[u8], ends: &[u16], array: usize, word: &mut [u8; 32768]) -> Check
-    requires { ⌜ (length (now text) ≤ 32768) × Known (now text) (now ends) ⌝ }
-    ensures { λ r. ⌜ r ≡ eachOf (simpleCheck (now (text .entry))) (elements (now (text .entry)) array) ⌝ }
+// 7, 9, 14 for each, with an empty table.
+fn each_symbol(
+    text: &[u8],
+    ends: &[u16],
+    array: usize,
+    table: &mut [u64],
+    word: &mut [u8; 32768],
+) -> Check
+    requires { ⌜ (length (now text) ≤ 32768) × Known (now text) (now ends) × Sized (now table) ⌝ }
+    ensures { λ r. ⌜ r ≡ symbolsNew (now (text .entry)) [] (elements (now (text .entry)) array) ⌝ }
 {
     let mut spot = first_element(text, array);
     loop {
         let Spot::At(p) = spot else {
             return Check::Fine;
         };
-        if let Check::Bad(f) = simple_check(text, ends, p, word) {
+        if let Check::Bad(f) = symbol(text, ends, array, p, table, word) {
             return Check::Bad(f);
         }
         spot = next_element(text, ends, p);
     }
 }
 
-// 7, 9, 14 for each.
+// 7, 9, 14 for each. A short array needs a small table.
 fn each_new(text: &[u8], ends: &[u16], array: usize, word: &mut [u8; 32768]) -> Check
     requires { ⌜ (length (now text) ≤ 32768) × Known (now text) (now ends) ⌝ }
     ensures { λ r. ⌜ r ≡ symbolsNew (now (text .entry)) [] (elements (now (text .entry)) array) ⌝ }
 {
-    if all_new(text, ends, array, word) {
-        return each_simple(text, ends, array, word);
+    let long = bytes_at(text, ends, array);
+    if long < 512 {
+        let mut few: [u64; 256] = [0; 256];
+        return each_symbol(text, ends, array, &mut few, word);
     }
-    each_symbol(text, ends, array, word)
+    if long < 4096 {
+        let mut some: [u64; 2048] = [0; 2048];
+        return each_symbol(text, ends, array, &mut some, word);
+    }
+    let mut many: [u64; 8192] = [0; 8192];
+    each_symbol(text, ends, array, &mut many, word)
 }
 
 // The `symbols` at a place: 13 for all, then 7, 9, 14 for each.

@@ -21,13 +21,13 @@ ghost use mathlib.Core.Path.{_≡_};
 ghost use mathlib.Core.List.{List};
 ghost use Prim.Native.Nat.{ℕ, _≤_};
 ghost use lib.ListN.{length};
-ghost use Rattle.ground.specs.Bytes.{same};
 ghost use Rattle.view.specs.Elements.{elements};
 ghost use Rattle.view.specs.Strings.{stringAt};
 ghost use Rattle.view.specs.Known.{Known};
+ghost use Rattle.name.specs.Full.{answerOf, bufferAfter};
 ghost use Rattle.form.specs.Names.{fullAt};
 ghost use Rattle.form.specs.Forms.{formOf, wordKind};
-ghost use Rattle.rules.specs.Unions.{unnamed, called, clash, wordHead, definitionHead, headOf, headNumber, before, isNew, unionCheck};
+ghost use Rattle.rules.specs.Unions.{unnamed, called, clash, wordHead, headOf, headNumber, nameOf, byName, apartOf, nameAfter, before, isNew, unionCheck};
 
 // ---- schemas that are told apart by their kind
 
@@ -106,100 +106,134 @@ pub fn new_kind(text: &[u8], ends: &[u16], standing: Standing, kind: Kind) -> Ch
 
 // ---- schemas that are told apart by their full name
 
-// Is this the full name of what is written at `at`, in a namespace?
-fn is_named(
+// What tells a schema apart: the number of its kind, or its full name, which is in a buffer unless it is too long to be kept.
+pub enum Apart {
+    Kind(u8),
+    Name(usize),
+    LongName,
+}
+
+fn by_name(full: Full) -> Apart
+    ensures { λ r. ⌜ r ≡ byName full ⌝ }
+{
+    match full {
+        Full::Fits(n) => Apart::Name(n),
+        Full::TooLong => Apart::LongName,
+    }
+}
+
+// The full name of what is written at `at`, in a namespace.
+fn full_at(
     text: &[u8],
     ends: &[u16],
     namespace: &[u8],
     at: usize,
-    name: &[u8],
     word: &mut [u8; 32768],
-    other: &mut [u8; 255],
-) -> bool
-    requires { ⌜ (length (now text) ≤ 32768) × (length (now name) ≤ 255) × Known (now text) (now ends) ⌝ }
-    ensures { λ r. ⌜ r ≡ same (fullAt (now (text .entry)) (now (namespace .entry)) at) (now (name .entry)) ⌝ }
+    full: &mut [u8; 255],
+) -> Full
+    requires { ⌜ (length (now text) ≤ 32768) × Known (now text) (now ends) ⌝ }
+    ensures { λ r. ⌜ (r ≡ answerOf (fullAt (now (text .entry)) (now (namespace .entry)) at)) × (now (full .exit) ≡ bufferAfter (now (full .entry)) (fullAt (now (text .entry)) (now (namespace .entry)) at)) ⌝ }
 {
     let n = string_copy(text, ends, at, word);
     let all = &word[..];
-    let Full::Fits(k) = full_name(namespace, &all[0..n], other) else {
-        return false;
-    };
-    let whole = &other[..];
-    same(&whole[0..k], name)
+    full_name(namespace, &all[0..n], full)
 }
 
-// Is this the full name of what is written at `at`, in the namespace at `space`? Of a name at most a dot is dropped: one
-// of more than 256 bytes has no full name of 255.
-fn is_named_in(
+// The full name of what is written at `at`, in the namespace at `space`. Of a name at most a dot is dropped: one of more than 256
+// bytes has no full name of 255.
+fn full_in(
     text: &[u8],
     ends: &[u16],
     space: usize,
     at: usize,
-    name: &[u8],
     word: &mut [u8; 32768],
-    other: &mut [u8; 255],
-) -> bool
-    requires { ⌜ (length (now text) ≤ 32768) × (length (now name) ≤ 255) × Known (now text) (now ends) ⌝ }
-    ensures { λ r. ⌜ r ≡ same (fullAt (now (text .entry)) (stringAt (now (text .entry)) space) at) (now (name .entry)) ⌝ }
+    full: &mut [u8; 255],
+) -> Full
+    requires { ⌜ (length (now text) ≤ 32768) × Known (now text) (now ends) ⌝ }
+    ensures { λ r. ⌜ (r ≡ answerOf (fullAt (now (text .entry)) (stringAt (now (text .entry)) space) at)) × (now (full .exit) ≡ bufferAfter (now (full .entry)) (fullAt (now (text .entry)) (stringAt (now (text .entry)) space) at)) ⌝ }
 {
     let mut own: [u8; 256] = [0; 256];
     let n = string_copy(text, ends, at, &mut own);
     if 256 < n {
-        return false;
+        return Full::TooLong;
     }
     let k = string_copy(text, ends, space, word);
     let all = &word[..];
-    let Full::Fits(l) = full_name(&all[0..k], &own[0..n], other) else {
-        return false;
-    };
-    let whole = &other[..];
-    same(&whole[0..l], name)
+    full_name(&all[0..k], &own[0..n], full)
 }
 
-// Is a string a reference to this full name?
-fn is_reference(
-    text: &[u8],
-    ends: &[u16],
-    namespace: &[u8],
-    at: usize,
-    name: &[u8],
-    word: &mut [u8; 32768],
-    other: &mut [u8; 255],
-) -> bool
-    requires { ⌜ (length (now text) ≤ 32768) × (length (now name) ≤ 255) × Known (now text) (now ends) ⌝ }
-    ensures { λ r. ⌜ r ≡ clash (wordHead (now (text .entry)) (now (namespace .entry)) at (wordKind (stringAt (now (text .entry)) at))) (called (now (name .entry))) ⌝ }
-{
-    if word_kind(text, ends, at).number() == Kind::Reference.number() {
-        return is_named(text, ends, namespace, at, name, word, other);
-    }
-    false
-}
-
-// Has the definition with these members this full name?
-fn is_definition(
+// The full name of the definition with these members; one without a name has none.
+fn definition_full(
     text: &[u8],
     ends: &[u16],
     enclosing: &[u8],
     members: Members,
-    name: &[u8],
     word: &mut [u8; 32768],
-    other: &mut [u8; 255],
-) -> bool
-    requires { ⌜ (length (now text) ≤ 32768) × (length (now name) ≤ 255) × Known (now text) (now ends) ⌝ }
-    ensures { λ r. ⌜ r ≡ clash (definitionHead (now (text .entry)) (now (enclosing .entry)) members) (called (now (name .entry))) ⌝ }
+    full: &mut [u8; 255],
+) -> Full
+    requires { ⌜ (length (now text) ≤ 32768) × Known (now text) (now ends) ⌝ }
+    ensures { λ r. ⌜ (r ≡ answerOf (nameOf (now (text .entry)) (now (enclosing .entry)) members)) × (now (full .exit) ≡ bufferAfter (now (full .entry)) (nameOf (now (text .entry)) (now (enclosing .entry)) members)) ⌝ }
 {
     let own = members.name;
     let Spot::At(p) = as_text(text, own) else {
-        return name.len() == 0;
+        return full_name(b"", b"", full);
     };
     let namespace = members.namespace;
     let Spot::At(q) = as_text(text, namespace) else {
-        return is_named(text, ends, enclosing, p, name, word, other);
+        return full_at(text, ends, enclosing, p, word, full);
     };
-    is_named_in(text, ends, q, p, name, word, other)
+    full_in(text, ends, q, p, word, full)
 }
 
-// Has the schema at a place this full name?
+// What tells a string apart.
+fn word_apart(
+    text: &[u8],
+    ends: &[u16],
+    namespace: &[u8],
+    at: usize,
+    word: &mut [u8; 32768],
+    full: &mut [u8; 255],
+) -> Apart
+    requires { ⌜ (length (now text) ≤ 32768) × Known (now text) (now ends) ⌝ }
+    ensures { λ r. ⌜ (r ≡ apartOf (wordHead (now (text .entry)) (now (namespace .entry)) at (wordKind (stringAt (now (text .entry)) at)))) × (now (full .exit) ≡ nameAfter (now (full .entry)) (wordHead (now (text .entry)) (now (namespace .entry)) at (wordKind (stringAt (now (text .entry)) at)))) ⌝ }
+{
+    let kind = word_kind(text, ends, at).number();
+    if kind == Kind::Reference.number() {
+        return by_name(full_at(text, ends, namespace, at, word, full));
+    }
+    Apart::Kind(kind)
+}
+
+// What tells the schema at a place apart.
+pub(crate) fn told_apart(
+    text: &[u8],
+    ends: &[u16],
+    namespace: &[u8],
+    at: usize,
+    word: &mut [u8; 32768],
+    full: &mut [u8; 255],
+) -> Apart
+    requires { ⌜ (length (now text) ≤ 32768) × Known (now text) (now ends) ⌝ }
+    ensures { λ r. ⌜ (r ≡ apartOf (headOf (now (text .entry)) (now (namespace .entry)) (formOf (now (text .entry)) at))) × (now (full .exit) ≡ nameAfter (now (full .entry)) (headOf (now (text .entry)) (now (namespace .entry)) (formOf (now (text .entry)) at))) ⌝ }
+{
+    let found = find(text, ends, at);
+    let form = found.form;
+    let members = found.members;
+    match form {
+        Form::Word(p, _) => word_apart(text, ends, namespace, p, word, full),
+        Form::ArrayOf(_) => Apart::Kind(Kind::Array.number()),
+        Form::MapOf(_) => Apart::Kind(Kind::Map.number()),
+        Form::UnionOf(_) => Apart::Kind(Kind::Union.number()),
+        Form::RecordOf(_) => {
+            by_name(definition_full(text, ends, namespace, members, word, full))
+        }
+        Form::EnumOf(_) => by_name(definition_full(text, ends, namespace, members, word, full)),
+        Form::FixedOf(_) => by_name(definition_full(text, ends, namespace, members, word, full)),
+        Form::Wrong(_) => by_name(full_name(b"", b"", full)),
+    }
+}
+
+// Has the schema at a place this full name? One that is too long is no other's.
 fn is_head(
     text: &[u8],
     ends: &[u16],
@@ -212,23 +246,18 @@ fn is_head(
     requires { ⌜ (length (now text) ≤ 32768) × (length (now name) ≤ 255) × Known (now text) (now ends) ⌝ }
     ensures { λ r. ⌜ r ≡ clash (headOf (now (text .entry)) (now (namespace .entry)) (formOf (now (text .entry)) at)) (called (now (name .entry))) ⌝ }
 {
-    let found = find(text, ends, at);
-    let form = found.form;
-    let members = found.members;
-    match form {
-        Form::Word(p, _) => is_reference(text, ends, namespace, p, name, word, other),
-        Form::ArrayOf(_) => false,
-        Form::MapOf(_) => false,
-        Form::UnionOf(_) => false,
-        Form::RecordOf(_) => is_definition(text, ends, namespace, members, name, word, other),
-        Form::EnumOf(_) => is_definition(text, ends, namespace, members, name, word, other),
-        Form::FixedOf(_) => is_definition(text, ends, namespace, members, name, word, other),
-        Form::Wrong(_) => name.len() == 0,
+    match told_apart(text, ends, namespace, at, word, other) {
+        Apart::Kind(_) => false,
+        Apart::LongName => false,
+        Apart::Name(n) => {
+            let whole = &other[..];
+            same(&whole[0..n], name)
+        }
     }
 }
 
 // Has no member of the union that stands before `member` this full name?
-fn is_new_name(
+pub(crate) fn is_new_name(
     text: &[u8],
     ends: &[u16],
     namespace: &[u8],

@@ -5,3 +5,4 @@ mod Steps
 mod Leaves
 mod Headed
 mod Nested
+mod Stands

@@ -53,17 +53,11 @@ pub(crate) fn put_field_head(
 }
 
 // 11, for the `fields` at a place, whose rows are counted.
-pub(crate) fn named_apart(
-    text: &[u8],
-    ends: &[u16],
-    array: usize,
-    counts: Counts,
-    word: &mut [u8; 32768],
-) -> Walked
+pub(crate) fn named_apart(text: &[u8], ends: &[u16], array: usize, counts: Counts) -> Walked
     requires { ⌜ Known (now text) (now ends) ⌝ }
     ensures { λ r. ⌜ ((m : List ℕ) → Did m counts m r (after (fieldNamesCheck (now (text .entry)) [] (fieldsIn (now (text .entry)) array)) (read []))) ⌝ }
 {
-    match field_names(text, ends, array, word) {
+    match field_names(text, ends, array) {
         Check::Bad(f) => Walked::Bad(f),
         Check::Fine => Walked::Read(counts),
     }

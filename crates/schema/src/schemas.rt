@@ -21,6 +21,8 @@ use name::namespace_part;
 use row::Kind;
 use rules::Standing;
 use rules::new_kind;
+use rules::stands;
+use rules::surely_new;
 use view::Members;
 use view::Spot;
 use view::first_element;
@@ -220,13 +222,14 @@ fn put_union(
     if let Check::Bad(f) = new_kind(text, ends, standing, Kind::Union) {
         return Walked::Bad(f);
     }
+    let sure = surely_new(text, ends, namespace, at, word);
     let mut sum = put(draft, counts, Kind::Union, depth, at, b"");
     let mut spot = first_element(text, at);
     loop {
         let Spot::At(p) = spot else {
             return Walked::Read(sum);
         };
-        let member = Standing::MemberOf(at, p);
+        let member = stands(at, p, sure);
         match put_schema(
             text,
             ends,
@@ -322,7 +325,7 @@ fn put_fields(
     let mut spot = first_element(text, array);
     loop {
         let Spot::At(p) = spot else {
-            return named_apart(text, ends, array, sum, word);
+            return named_apart(text, ends, array, sum);
         };
         match put_field(text, ends, namespace, p, depth, left, draft, sum, word) {
             Walked::Bad(f) => return Walked::Bad(f),

@@ -1,69 +1,143 @@
 -- Laws of the table: what was entered is marked, and stays so.
 -- Assumes nothing.
 use mathlib.Core.Path.{_≡_, refl, sym, ap, _∙_}
-use mathlib.Core.Bool.{Bool, true, false, _&&_, _||_, or-false}
+use mathlib.Core.Bool.{Bool, true, false, cond, _||_, or-false}
 use mathlib.Core.List.{List, [], _∷_, _++_}
-use Prim.Native.Nat.{ℕ, _<_, _≤_}
+use Prim.Native.Nat.{ℕ, zero, suc, _<_, _≤_, _%_}
 use native.Mathlib.Omega.{arith}
-use native.Mathlib.Decide.{decLt}
-use lib.Dec.{eqb}
-use lib.ListN.{length, set, length-set}
-use lib.Seq.{getD-set-same, getD-set-other, set-out}
-use borrow.Author.Tests.{eqb-true, eqb-false}
-use Rattle.ground.specs.Bytes.{byteAt, same}
-use Rattle.ground.proofs.Laws.{never, and-true, same-true}
+use lib.Dec.{eqb, ltb}
+use lib.ListN.{length, getD, set, length-set}
+use lib.Seq.{getD-set-same, getD-set-other}
+use borrow.Author.Tests.{eqb-true, eqb-false, eq-eqb, ne-eqb, ltb-false}
+use Rattle.ground.specs.Bytes.{same}
+use Rattle.ground.proofs.Laws.{never, same-true}
 use Rattle.name.specs.Name.{isOneOf}
 use Rattle.name.proofs.Laws.{one-of-append}
 use Rattle.view.specs.Marks.{markOf}
-use Rattle.seen.specs.Seen.{slots, slot1, slot2, slot3, isSet, isMarked, entered, Holds}
+use Rattle.seen.specs.declared.Found.{Found}
+use Rattle.seen.specs.declared.Found.the-variants.{Marked, Free}
+use Rattle.seen.specs.Seen.{fewest, Sized, placeIn, firstOf, nextOf, from, foundIn, isThere, isMarked, put, entered, Holds}
 
--- ---- one byte
-
--- where there is room, a 1 is there
-set-here : (t : List ℕ) (i : ℕ) → i < length t → isSet (set t i 1) i ≡ true
-unfolding isSet byteAt
-set-here t i l = rw (getD-set-same t i 1 0 l)
-
--- and no byte becomes 0
-set-keeps : (t : List ℕ) (i j : ℕ) → isSet t j ≡ true → isSet (set t i 1) j ≡ true
-unfolding isSet byteAt
-set-keeps t i j e = go (eqb j i) refl (decLt i (length t))
+pub place-below : (size n : ℕ) → fewest ≤ size → placeIn size n < size
+unfolding placeIn
+place-below size n l = go (ltb size 2048) refl (ltb size 8192) refl
   where
-    go : (x : Bool) → eqb j i ≡ x → Dec (i < length t) → isSet (set t i 1) j ≡ true
-    go true f (yes l) = rw (eqb-true j i f) (set-here t i l)
-    go true f (no n) = rw (set-out t i 1 (omega arith)) e
-    go false f d = rw (getD-set-other t i j 1 0 (eqb-false j i f)) e
+    go : (x : Bool) → ltb size 2048 ≡ x → (y : Bool) → ltb size 8192 ≡ y → cond x (n % 256) (cond y (n % 2048) (n % 8192)) < size
+    go true e y f = omega arith
+    go false e true f = let z = ltb-false size 2048 e in omega arith
+    go false e false f = let z = ltb-false size 8192 f in omega arith
 
--- ---- three bytes
+-- ---- one walk over the places of a mark that is not 0
+
+module _ (t : List ℕ) (m : ℕ) where
+  -- an empty place, of the table
+  module _ (l : fewest ≤ length t) (i : ℕ) where
+    free-place : (n at : ℕ) → at < length t → from t m n at ≡ Free i → (getD t i 0 ≡ 0) × (i < length t)
+    unfolding from
+    free-place zero at b e = let z : true ≡ false = ap isThere e in never (sym z)
+    free-place (suc n) at b e = go (eqb (getD t at 0) m) refl (eqb (getD t at 0) 0) refl (free-place n (nextOf (length t) m at) (place-below (length t) _ l))
+      where
+        go : (x : Bool) → eqb (getD t at 0) m ≡ x → (y : Bool) → eqb (getD t at 0) 0 ≡ y
+            → (from t m n (nextOf (length t) m at) ≡ Free i → (getD t i 0 ≡ 0) × (i < length t)) → (getD t i 0 ≡ 0) × (i < length t)
+        go true p y q f = let z : Marked ≡ Free i = rw p at e in let w : true ≡ false = ap isThere z in never (sym w)
+        go false p true q f =
+            let z : Free at ≡ Free i = rw (p, q) at e in
+            let w : at ≡ i = cc in
+            (rw (← w) (eqb-true (getD t at 0) 0 q), rw (← w) b)
+        go false p false q f = f (rw (p, q) at e)
+
+  module _ (some : m ≡ 0 → ⊥) (i v : ℕ) (empty : getD t i 0 ≡ 0) where
+    apart : (at : ℕ) → (getD t at 0 ≡ 0 → ⊥) → at ≡ i → ⊥
+    apart at h e = h (ap (λ (k : ℕ). getD t k 0) e ∙ empty)
+
+    -- what is there is there when an empty place is filled
+    there-stays : (n at : ℕ) → isThere (from t m n at) ≡ true → isThere (from (set t i v) m n at) ≡ true
+    unfolding from
+    there-stays zero at e = refl
+    there-stays (suc n) at e = go (eqb (getD t at 0) m) refl (eqb (getD t at 0) 0) refl (there-stays n (nextOf (length t) m at))
+      where
+        go : (x : Bool) → eqb (getD t at 0) m ≡ x → (y : Bool) → eqb (getD t at 0) 0 ≡ y
+            → (isThere (from t m n (nextOf (length t) m at)) ≡ true → isThere (from (set t i v) m n (nextOf (length t) m at)) ≡ true)
+            → isThere (from (set t i v) m (suc n) at) ≡ true
+        go true p y q f =
+            let z = eqb-true (getD t at 0) m p in
+            rw (getD-set-other t i at v 0 (apart at (λ (g : getD t at 0 ≡ 0). some (sym z ∙ g))), p)
+        go false p true q f = let z : false ≡ true = rw (p, q) at e in never z
+        go false p false q f =
+            rw (getD-set-other t i at v 0 (apart at (eqb-false (getD t at 0) 0 q)), p, q, length-set) (f (rw (p, q) at e))
+
+  -- the mark is there when it fills the place that the walk found
+  module _ (i : ℕ) (b : i < length t) where
+    filled-there : (n at : ℕ) → from t m n at ≡ Free i → isThere (from (set t i m) m n at) ≡ true
+    unfolding from
+    filled-there zero at e = refl
+    filled-there (suc n) at e = go (eqb (getD t at 0) m) refl (eqb (getD t at 0) 0) refl (eqb at i) refl (filled-there n (nextOf (length t) m at))
+      where
+        go : (x : Bool) → eqb (getD t at 0) m ≡ x → (y : Bool) → eqb (getD t at 0) 0 ≡ y → (z : Bool) → eqb at i ≡ z
+            → (from t m n (nextOf (length t) m at) ≡ Free i → isThere (from (set t i m) m n (nextOf (length t) m at)) ≡ true)
+            → isThere (from (set t i m) m (suc n) at) ≡ true
+        go x p y q true r f = rw (eqb-true at i r, getD-set-same t i m 0 b, eq-eqb m m refl)
+        go true p y q false r f = let z : Marked ≡ Free i = rw p at e in let w : true ≡ false = ap isThere z in never (sym w)
+        go false p true q false r f =
+            let z : Free at ≡ Free i = rw (p, q) at e in
+            let w : at ≡ i = cc in
+            absurd (eqb-false at i r w)
+        go false p false q false r f =
+            rw (getD-set-other t i at m 0 (eqb-false at i r), p, q, length-set) (f (rw (p, q) at e))
+
+-- ---- the table
 
 pub length-entered : (table : List ℕ) (m : ℕ) → length (entered table m) ≡ length table
 unfolding entered
-length-entered table m = simp length-set
+length-entered table m = go (foundIn table m)
+  where
+    go : (f : Found) → length (put table m f) ≡ length table
+    go Marked = refl
+    go (Free at) = simp length-set
 
--- a byte that is not 0 is not 0 afterwards
-entered-keeps : (t : List ℕ) (m j : ℕ) → isSet t j ≡ true → isSet (entered t m) j ≡ true
-unfolding entered
-entered-keeps t m j e =
-    set-keeps (set (set t (slot1 m) 1) (slot2 m) 1) (slot3 m) j (set-keeps (set t (slot1 m) 1) (slot2 m) j (set-keeps t (slot1 m) j e))
+pub sized-as : {table table₁ : List ℕ} → Sized table → length table₁ ≡ length table → Sized table₁
+sized-as s e = let a = s .least in let b = s .most in record { least = omega arith; most = omega arith }
 
--- what is marked stays so
-marked-stays : (t : List ℕ) (m n : ℕ) → isMarked t n ≡ true → isMarked (entered t m) n ≡ true
-unfolding isMarked
-marked-stays t m n e =
-    let p = and-true (isSet t (slot1 n) && isSet t (slot2 n)) (isSet t (slot3 n)) e in
-    let q = and-true (isSet t (slot1 n)) (isSet t (slot2 n)) (p .0) in
-    rw (entered-keeps t m (slot1 n) (q .0), entered-keeps t m (slot2 n) (q .1), entered-keeps t m (slot3 n) (p .1))
+module _ (t : List ℕ) (m : ℕ) where
+  -- an empty place is found for marks alone that are not 0, and by the walk
+  free-found : (i : ℕ) → foundIn t m ≡ Free i → (m ≡ 0 → ⊥) × (from t m (length t) (firstOf (length t) m) ≡ Free i)
+  unfolding foundIn
+  free-found i e = go (eqb m 0) refl
+    where
+      go : (x : Bool) → eqb m 0 ≡ x → (m ≡ 0 → ⊥) × (from t m (length t) (firstOf (length t) m) ≡ Free i)
+      go true p = let z : Marked ≡ Free i = rw p at e in let w : true ≡ false = ap isThere z in never (sym w)
+      go false p = (eqb-false m 0 p, rw p at e)
 
--- what is entered is marked
-entered-marked : (t : List ℕ) (m : ℕ) → slots ≤ length t → isMarked (entered t m) m ≡ true
-unfolding isMarked entered
-entered-marked t m l =
-    let a = set t (slot1 m) 1 in
-    let b = set a (slot2 m) 1 in
-    let p = set-keeps b (slot3 m) (slot1 m) (set-keeps a (slot2 m) (slot1 m) (set-here t (slot1 m) (omega arith))) in
-    let q = set-keeps b (slot3 m) (slot2 m) (set-here a (slot2 m) (simp length-set (omega arith))) in
-    let r = set-here b (slot3 m) (simp length-set (omega arith)) in
-    rw (p, q, r)
+  free-is : fewest ≤ length t → (i : ℕ) → foundIn t m ≡ Free i → (getD t i 0 ≡ 0) × (i < length t)
+  free-is l i e = free-place t m l i (length t) (firstOf (length t) m) (place-below (length t) _ l) (free-found i e .1)
+
+  pub free-below : fewest ≤ length t → {f : Found} → f ≡ foundIn t m → {i : ℕ} → f ≡ Free i → i < length t
+  free-below l e {i} g = free-is l i (sym e ∙ g) .1
+
+  -- what is marked stays so
+  filled-stays : (n i : ℕ) → isMarked t n ≡ true → getD t i 0 ≡ 0 → (x : Bool) → eqb n 0 ≡ x → isMarked (set t i m) n ≡ true
+  unfolding isMarked foundIn
+  filled-stays n i e z true p = rw p
+  filled-stays n i e z false p = rw (p, length-set) (there-stays t n (eqb-false n 0 p) i m z (length t) (firstOf (length t) n) (rw p at e))
+
+  marked-stays : (n : ℕ) → fewest ≤ length t → isMarked t n ≡ true → isMarked (entered t m) n ≡ true
+  unfolding entered
+  marked-stays n l e = go (foundIn t m) refl
+    where
+      go : (f : Found) → foundIn t m ≡ f → isMarked (put t m f) n ≡ true
+      go Marked p = e
+      go (Free i) p = filled-stays n i e (free-is l i p .0) (eqb n 0) refl
+
+  -- what is entered is marked
+  entered-marked : fewest ≤ length t → isMarked (entered t m) m ≡ true
+  unfolding entered isMarked foundIn
+  entered-marked l = go (foundIn t m) refl
+    where
+      go : (f : Found) → foundIn t m ≡ f → isMarked (put t m f) m ≡ true
+      go Marked p = ap isThere p
+      go (Free i) p =
+          let q = free-found i p in
+          rw (ne-eqb m 0 (q .0), length-set) (filled-there t m i (free-is l i p .1) (length t) (firstOf (length t) m) (q .1))
 
 -- ---- strings
 
@@ -72,12 +146,12 @@ unfolding isOneOf
 holds-none table = record { holds = λ x e. never e }
 
 module _ {table : List ℕ} {taken : List (List ℕ)} (h : Holds table taken) (x : List ℕ) where
-  pub holds-more : slots ≤ length table → Holds (entered table (markOf x)) (taken ++ (x ∷ []))
+  pub holds-more : fewest ≤ length table → Holds (entered table (markOf x)) (taken ++ (x ∷ []))
   unfolding isOneOf
   holds-more l = record { holds = λ y e. go y (isOneOf taken y) refl (sym (one-of-append taken (x ∷ []) y) ∙ e) }
     where
       go : (y : List ℕ) (b : Bool) → isOneOf taken y ≡ b → (isOneOf taken y || isOneOf (x ∷ []) y) ≡ true → isMarked (entered table (markOf x)) (markOf y) ≡ true
-      go y true e f = marked-stays table (markOf x) (markOf y) (h .holds y e)
+      go y true e f = marked-stays table (markOf x) (markOf y) l (h .holds y e)
       go y false e f =
           let g : same y x ≡ true = sym (or-false (same y x)) ∙ (rw e at f) in
           rw (same-true y x g) (entered-marked table (markOf x) l)
@@ -91,7 +165,7 @@ module _ {table : List ℕ} {taken : List (List ℕ)} (h : Holds table taken) (x
 
   -- the same, as calls state it
   module _ {m : ℕ} (e : m ≡ markOf x) where
-    pub enter-holds : {after : List ℕ} → after ≡ entered table m → slots ≤ length table → Holds after (taken ++ (x ∷ []))
+    pub enter-holds : {after : List ℕ} → after ≡ entered table m → fewest ≤ length table → Holds after (taken ++ (x ∷ []))
     enter-holds f l = rw (f, e) (holds-more l)
 
     pub unmarked-new : {r : Bool} → r ≡ isMarked table m → r ≡ false → isOneOf taken x ≡ false

@@ -1,63 +1,66 @@
--- What the code does, by the table: the turns of the loop that forgets, the tests of a mark, the stores of one.
+-- What the code does, by the table: the turns of the loop that looks for a mark, and the store of one.
 -- Assumes nothing.
-use mathlib.Core.Path.{_≡_, sym, ap, _∙_}
-use mathlib.Core.Bool.{true, false, not}
-use mathlib.Core.List.{List, [], _∷_}
-use Prim.Native.Nat.{ℕ, suc, _+_, _-_, _<_, _≤_}
-use native.Mathlib.Nat.{sub-zero}
+use mathlib.Core.Path.{_≡_, refl, sym, ap, _∙_}
+use mathlib.Core.Bool.{true, false}
+use mathlib.Core.List.{List}
+use Prim.Native.Nat.{ℕ, suc, _-_, _%_, _<_, _≤_}
 use native.Mathlib.Omega.{arith}
-use lib.Dec.{eqb}
-use lib.ListN.{getD, set}
-use borrow.Author.Tests.{eq-eqb, ne-eqb}
-use Rattle.ground.specs.Bytes.{byteAt, store}
-use Rattle.ground.proofs.Laws.{store-cons, store-none}
-use Rattle.seen.specs.Seen.{slot1, slot2, slot3, isSet, isMarked, entered, zeros}
+use lib.ListN.{length, getD, set}
+use borrow.Author.Tests.{eq-eqb, ne-eqb, lt-ltb, le-ltb}
+use Rattle.seen.specs.declared.Found.{Found}
+use Rattle.seen.specs.declared.Found.the-variants.{Marked, Free}
+use Rattle.seen.specs.Seen.{placeIn, firstOf, nextOf, from, foundIn, isMarked, entered}
 
--- ---- zeros: those that are left, stored, give the whole store
+-- a place, by the table's size
+module _ (size n : ℕ) where
+  pub place-few : size < 2048 → n % 256 ≡ placeIn size n
+  unfolding placeIn
+  place-few l = rw (lt-ltb size 2048 l)
 
-zeros-none : (n : ℕ) → n ≡ 0 → zeros n ≡ []
-unfolding zeros
-zeros-none n e = rw e
+  pub place-some : 2048 ≤ size → size < 8192 → n % 2048 ≡ placeIn size n
+  unfolding placeIn
+  place-some k l = rw (le-ltb size 2048 k, lt-ltb size 8192 l)
 
-zeros-more : (n k : ℕ) → n ≡ suc k → zeros n ≡ 0 ∷ zeros k
-unfolding zeros
-zeros-more n k e = rw e
+  pub place-many : 2048 ≤ size → 8192 ≤ size → n % 8192 ≡ placeIn size n
+  unfolding placeIn
+  place-many k l = rw (le-ltb size 2048 k, le-ltb size 8192 l)
 
-pub zeros-first : (t : List ℕ) (n : ℕ) → store t 0 (zeros (n - 0)) ≡ store t 0 (zeros n)
-zeros-first t n = rw sub-zero
+pub found-zero : (t : List ℕ) (m : ℕ) → m ≡ 0 → Marked ≡ foundIn t m
+unfolding foundIn
+found-zero t m e = rw (eq-eqb m 0 e)
 
-module _ (t x : List ℕ) (i n : ℕ) (inv : store t i (zeros (n - i)) ≡ x) where
-  pub zero-turn : i < n → store (set t i 0) (i + 1) (zeros (n - (i + 1))) ≡ x
-  zero-turn l =
-      sym (store-cons t i 0 (zeros (n - (i + 1)))) ∙ ap (λ (z : List ℕ). store t i z) (sym (zeros-more (n - i) (n - (i + 1)) (omega arith))) ∙ inv
+-- what is found from a place on is what is found
+pub found-start : (t : List ℕ) (m : ℕ) → (m ≡ 0 → ⊥) → {at : ℕ} → at ≡ firstOf (length t) m → from t m (length t) at ≡ foundIn t m
+unfolding foundIn
+found-start t m n e = rw (ne-eqb m 0 n, e)
 
-  pub zero-end : n ≤ i → t ≡ x
-  zero-end l = sym (store-none t i) ∙ ap (λ (z : List ℕ). store t i z) (sym (zeros-none (n - i) (omega arith))) ∙ inv
+module _ (t : List ℕ) (m left at : ℕ) {x : Found} (inv : from t m left at ≡ x) where
+  pub found-end : left ≤ 0 → Marked ≡ x
+  unfolding from
+  found-end n = let e : left ≡ 0 = omega arith in rw e at inv
 
--- ---- one slot after the other
+  module _ (l : 0 < left) where
+    here : from t m (suc (left - 1)) at ≡ x
+    here = let e : suc (left - 1) ≡ left = omega arith in ap (λ (k : ℕ). from t m k at) e ∙ inv
 
-unset : (t : List ℕ) (s k : ℕ) → s ≡ k → getD t s 0 ≡ 0 → isSet t k ≡ false
-unfolding isSet byteAt
-unset t s k e z = rw (← e, eq-eqb (getD t s 0) 0 z)
+    pub found-mark : {h : ℕ} → h ≡ getD t at 0 → h ≡ m → Marked ≡ x
+    unfolding from
+    found-mark e f = rw (eq-eqb (getD t at 0) m (sym e ∙ f)) at here
 
-is-set : (t : List ℕ) (s k : ℕ) → s ≡ k → (getD t s 0 ≡ 0 → ⊥) → isSet t k ≡ true
-unfolding isSet byteAt
-is-set t s k e n = rw (← e, ne-eqb (getD t s 0) 0 n)
+    module _ {h : ℕ} (e : h ≡ getD t at 0) (n : h ≡ m → ⊥) where
+      pub found-free : h ≡ 0 → Free at ≡ x
+      unfolding from
+      found-free f = rw (ne-eqb (getD t at 0) m (λ z. n (e ∙ z)), eq-eqb (getD t at 0) 0 (sym e ∙ f)) at here
 
-module _ (t : List ℕ) (m : ℕ) {a : ℕ} (e : a ≡ slot1 m) where
-  pub first-zero : getD t a 0 ≡ 0 → false ≡ isMarked t m
-  unfolding isMarked
-  first-zero z = rw (unset t a (slot1 m) e z)
+      pub found-on : (h ≡ 0 → ⊥) → {next : ℕ} → next ≡ nextOf (length t) m at → from t m (left - 1) next ≡ x
+      unfolding from
+      found-on f g = rw g (rw (ne-eqb (getD t at 0) m (λ z. n (e ∙ z)), ne-eqb (getD t at 0) 0 (λ z. f (e ∙ z))) at here)
 
-  module _ (n : getD t a 0 ≡ 0 → ⊥) {b : ℕ} (f : b ≡ slot2 m) where
-    pub second-zero : getD t b 0 ≡ 0 → false ≡ isMarked t m
-    unfolding isMarked
-    second-zero z = rw (is-set t a (slot1 m) e n, unset t b (slot2 m) f z)
+module _ (t : List ℕ) (m : ℕ) {f : Found} (e : f ≡ foundIn t m) where
+  pub enter-marked : f ≡ Marked → (true ≡ isMarked t m) × (t ≡ entered t m)
+  unfolding isMarked entered
+  enter-marked g = (rw (← e, g), rw (← e, g))
 
-    pub third-tells : (getD t b 0 ≡ 0 → ⊥) → {d : ℕ} → d ≡ slot3 m → not (eqb (getD t d 0) 0) ≡ isMarked t m
-    unfolding isMarked isSet byteAt
-    third-tells o g = rw (is-set t a (slot1 m) e n, is-set t b (slot2 m) f o, g)
-
-pub stores-three : (t : List ℕ) (m : ℕ) {a b d : ℕ} → a ≡ slot1 m → b ≡ slot2 m → d ≡ slot3 m → set (set (set t a 1) b 1) d 1 ≡ entered t m
-unfolding entered
-stores-three t m e f g = rw (e, f, g)
+  pub enter-free : {i : ℕ} → f ≡ Free i → (false ≡ isMarked t m) × (set t i m ≡ entered t m)
+  unfolding isMarked entered
+  enter-free g = (rw (← e, g), rw (← e, g))

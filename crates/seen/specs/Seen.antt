@@ -1,45 +1,62 @@
 -- A table of the marks of strings: what was entered is marked. What was not may be marked too.
 -- Assumes nothing.
-use Prim.Native.Nat.{ℕ, _*_, _/_, _%_}
+use Prim.Native.Nat.{ℕ, zero, suc, _+_, _*_, _/_, _%_, _<_, _≤_}
 use mathlib.Core.Path.{_≡_}
-use mathlib.Core.Bool.{Bool, true, not, _&&_}
+use mathlib.Core.Bool.{Bool, true, false, cond}
 use mathlib.Core.List.{List}
-use lib.Dec.{eqb}
-use lib.ListN.{set, replicate}
-use Rattle.ground.specs.Bytes.{byteAt, store}
+use lib.Dec.{eqb, ltb}
+use lib.ListN.{length, getD, set}
 use Rattle.name.specs.Name.{isOneOf}
 use Rattle.view.specs.Marks.{markOf}
+use Rattle.seen.specs.declared.Found.{Found}
+use Rattle.seen.specs.declared.Found.the-variants.{Marked, Free}
 
--- the bytes of the table
-abbrev pub slots : ℕ
-slots = 8192
+-- the fewest places that a table has; others have 2,048 or 8,192
+abbrev pub fewest : ℕ
+fewest = 256
 
--- each mark has three of them, by three stretches of the bits of a product
-abbrev pub spread : ℕ → ℕ
-spread m = m % 4294967296 * 2654435761
+-- memory that may be a table
+pub record Sized (table : List ℕ) : Type 0 where
+  pub least : fewest ≤ length table
+  pub most : length table < 4294967296
 
-abbrev pub slot1 : ℕ → ℕ
-slot1 m = spread m / 524288 % slots
+-- the place of a number in a table of so many places
+unfoldable pub placeIn : ℕ → ℕ → ℕ
+placeIn size n = cond (ltb size 2048) (n % 256) (cond (ltb size 8192) (n % 2048) (n % 8192))
 
-abbrev pub slot2 : ℕ → ℕ
-slot2 m = spread m / 4294967296 % slots
+-- each mark has a first place, and from each place on a next one, at its own distance
+abbrev pub firstOf : ℕ → ℕ → ℕ
+firstOf size m = placeIn size (m / 4294967296)
 
-abbrev pub slot3 : ℕ → ℕ
-slot3 m = spread m / 64 % slots
+abbrev pub nextOf : ℕ → ℕ → ℕ → ℕ
+nextOf size m at = placeIn size (at + m % 4294967296 / 2 * 2 + 1)
 
-unfoldable pub isSet : List ℕ → ℕ → Bool
-isSet table slot = not (eqb (byteAt table slot) 0)
+-- from a place on: the mark, or an empty place. After n places it counts as marked
+unfoldable pub from : List ℕ → ℕ → ℕ → ℕ → Found
+from table m zero at = Marked
+from table m (suc n) at =
+    let held = getD table at 0 in
+    let on = from table m n (nextOf (length table) m at) in
+    cond (eqb held m) Marked (cond (eqb held 0) (Free at) on)
 
--- is none of the three bytes 0?
+-- 0 is an empty place, and so no mark that could be entered: it counts as marked
+unfoldable pub foundIn : List ℕ → ℕ → Found
+foundIn table m = let found = from table m (length table) (firstOf (length table) m) in cond (eqb m 0) Marked found
+
+abbrev pub isThere : Found → Bool
+isThere Marked = true
+isThere (Free at) = false
+
 unfoldable pub isMarked : List ℕ → ℕ → Bool
-isMarked table m = isSet table (slot1 m) && isSet table (slot2 m) && isSet table (slot3 m)
+isMarked table m = isThere (foundIn table m)
 
--- 1 in all three
+-- a mark that is not there goes to the empty place
+abbrev pub put : List ℕ → ℕ → Found → List ℕ
+put table m Marked = table
+put table m (Free at) = set table at m
+
 unfoldable pub entered : List ℕ → ℕ → List ℕ
-entered table m = set (set (set table (slot1 m) 1) (slot2 m) 1) (slot3 m) 1
-
-unfoldable pub zeros : ℕ → List ℕ
-zeros n = replicate n 0
+entered table m = put table m (foundIn table m)
 
 -- each of the strings is marked
 pub record Holds (table : List ℕ) (taken : List (List ℕ)) : Type 0 where

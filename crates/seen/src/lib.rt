@@ -1,74 +1,84 @@
-// A table of the marks of strings, in the first 8,192 bytes of lent memory. A string that is not marked is surely new; one that is
-// has to be looked for.
+// A table of the marks of strings, in lent memory of 256, 2,048 or 8,192 numbers, zeros at first. A string that is not marked is surely new;
+// one that is has to be looked for.
 ghost use mathlib.Core.Path.{_≡_};
 ghost use Prim.Native.Nat.{_<_, _≤_};
-ghost use lib.ListN.{length};
-ghost use Rattle.ground.specs.Bytes.{store};
-ghost use Rattle.seen.specs.Seen.{slots, spread, slot1, slot2, slot3, isMarked, entered, zeros};
+ghost use Rattle.seen.specs.Seen.{fewest, Sized, placeIn, firstOf, nextOf, foundIn, isMarked, entered};
 
-fn spread(mark: u64) -> u64
-    ensures { λ r. ⌜ r ≡ spread mark ⌝ }
-{
-    mark % 4294967296 * 2654435761
+// Where a mark is looked for: it is there, or an empty place is.
+pub enum Found {
+    Marked,
+    Free(usize),
 }
 
-fn slot1(mark: u64) -> usize
-    ensures { λ r. ⌜ (r ≡ slot1 mark) × (r < slots) ⌝ }
+// The place of a number in a table of so many places.
+fn place(size: usize, n: u64) -> usize
+    requires { ⌜ fewest ≤ size ⌝ }
+    ensures { λ r. ⌜ (r ≡ placeIn size n) × (r < size) ⌝ }
 {
-    (spread(mark) / 524288 % 8192) as usize
-}
-
-fn slot2(mark: u64) -> usize
-    ensures { λ r. ⌜ (r ≡ slot2 mark) × (r < slots) ⌝ }
-{
-    (spread(mark) / 4294967296 % 8192) as usize
-}
-
-fn slot3(mark: u64) -> usize
-    ensures { λ r. ⌜ (r ≡ slot3 mark) × (r < slots) ⌝ }
-{
-    (spread(mark) / 64 % 8192) as usize
-}
-
-// The first n bytes become 0.
-fn clear(bytes: &mut [u8], n: usize)
-    requires { ⌜ n ≤ length (now bytes) ⌝ }
-    ensures { λ _. ⌜ now (bytes .exit) ≡ store (now (bytes .entry)) 0 (zeros n) ⌝ }
-{
-    let mut i: usize = 0;
-    while i < n {
-        bytes[i] = 0;
-        i += 1;
+    if size < 2048 {
+        return (n % 256) as usize;
     }
-}
-
-// Nothing is marked any more.
-pub fn forget(table: &mut [u8; 32768])
-    ensures { λ _. ⌜ (now (table .exit) ≡ store (now (table .entry)) 0 (zeros slots)) × (length (now (table .exit)) ≡ 32768) ⌝ }
-{
-    clear(table, 8192);
-}
-
-// Is the mark entered, or each of its bytes by others?
-pub fn is_marked(table: &[u8; 32768], mark: u64) -> bool
-    ensures { λ r. ⌜ r ≡ isMarked (now (table .entry)) mark ⌝ }
-{
-    if table[slot1(mark)] == 0 {
-        return false;
+    if size < 8192 {
+        return (n % 2048) as usize;
     }
-    if table[slot2(mark)] == 0 {
-        return false;
-    }
-    table[slot3(mark)] != 0
+    (n % 8192) as usize
 }
 
-pub fn enter(table: &mut [u8; 32768], mark: u64)
-    ensures { λ _. ⌜ now (table .exit) ≡ entered (now (table .entry)) mark ⌝ }
+// Where the mark is looked for first.
+fn first_place(size: usize, mark: u64) -> usize
+    requires { ⌜ fewest ≤ size ⌝ }
+    ensures { λ r. ⌜ (r ≡ firstOf size mark) × (r < size) ⌝ }
 {
-    let first = slot1(mark);
-    let second = slot2(mark);
-    let third = slot3(mark);
-    table[first] = 1;
-    table[second] = 1;
-    table[third] = 1;
+    place(size, mark / 4294967296)
+}
+
+fn wide(at: usize) -> u64
+    ensures { λ r. ⌜ r ≡ at ⌝ }
+{
+    at as u64
+}
+
+// Where it is looked for next.
+fn next_place(size: usize, mark: u64, at: usize) -> usize
+    requires { ⌜ (fewest ≤ size) × (at < 4294967296) ⌝ }
+    ensures { λ r. ⌜ (r ≡ nextOf size mark at) × (r < size) ⌝ }
+{
+    place(size, wide(at) + mark % 4294967296 / 2 * 2 + 1)
+}
+
+fn find(table: &[u64], mark: u64) -> Found
+    requires { ⌜ Sized (now table) ⌝ }
+    ensures { λ r. ⌜ r ≡ foundIn (now (table .entry)) mark ⌝ }
+{
+    if mark == 0 {
+        return Found::Marked;
+    }
+    let mut at = first_place(table.len(), mark);
+    let mut left = table.len();
+    while 0 < left {
+        let held = table[at];
+        if held == mark {
+            return Found::Marked;
+        }
+        if held == 0 {
+            return Found::Free(at);
+        }
+        at = next_place(table.len(), mark, at);
+        left -= 1;
+    }
+    Found::Marked
+}
+
+// Enters a mark. Was it there, or is that not known?
+pub fn enter(table: &mut [u64], mark: u64) -> bool
+    requires { ⌜ Sized (now table) ⌝ }
+    ensures { λ r. ⌜ (r ≡ isMarked (now (table .entry)) mark) × (now (table .exit) ≡ entered (now (table .entry)) mark) ⌝ }
+{
+    match find(table, mark) {
+        Found::Marked => true,
+        Found::Free(at) => {
+            table[at] = mark;
+            false
+        }
+    }
 }

@@ -19,6 +19,7 @@ pub use literals::string_copy;
 pub use literals::string_is;
 pub use literals::strings_same;
 pub use marks::mark;
+pub use marks::mark_of;
 pub use members::Members;
 pub use members::Titles;
 pub use members::members_at;

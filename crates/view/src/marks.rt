@@ -6,7 +6,7 @@ use super::strings::opening;
 ghost use mathlib.Core.Path.{_≡_};
 ghost use Prim.Native.Nat.{_<_};
 ghost use Rattle.view.specs.Known.{Known};
-ghost use Rattle.view.specs.Marks.{markOf};
+ghost use Rattle.view.specs.Marks.{markStep, markOf};
 ghost use Rattle.view.specs.Strings.{stringAt};
 
 fn wide(b: u8) -> u64
@@ -15,13 +15,25 @@ fn wide(b: u8) -> u64
     b as u64
 }
 
-fn mark_of(s: &[u8]) -> u64
+// The mark of no bytes.
+const START: u64 = 1442695040888963407;
+
+// The mark with one byte more.
+fn more(h: u64, b: u8) -> u64
+    ensures { λ r. ⌜ r ≡ markStep h b ⌝ }
+{
+    let w = wide(b);
+    h % 4294967296 * (2654435769 + w) + h / 4294967296 + w
+}
+
+// The mark of these bytes.
+pub fn mark_of(s: &[u8]) -> u64
     ensures { λ r. ⌜ r ≡ markOf (now (s .entry)) ⌝ }
 {
-    let mut h: u64 = 0;
+    let mut h: u64 = START;
     let mut i: usize = 0;
     while i < s.len() {
-        h = (h * 31 + wide(s[i])) % 4294967296;
+        h = more(h, s[i]);
         i += 1;
     }
     h
@@ -31,12 +43,12 @@ fn spelled_mark(text: &[u8], at: usize) -> u64
     ensures { λ r. ⌜ r ≡ markOf (stringAt (now (text .entry)) at) ⌝ }
 {
     let mut c = opening(text, at);
-    let mut h: u64 = 0;
+    let mut h: u64 = START;
     loop {
         match next_byte(text, c) {
             Step::End => return h,
             Step::Byte(b, next) => {
-                h = (h * 31 + wide(b)) % 4294967296;
+                h = more(h, b);
                 c = next;
             }
         }

@@ -1,39 +1,50 @@
 -- `seen::enter` meets its contract.
 -- Assumes nothing.
+use native.Mathlib.Omega.{arith}
 use borrow.Author.Needs.{needs}
-use Rattle.seen.proofs.Turns.{stores-three}
+use Rattle.seen.proofs.Laws.{free-below}
+use Rattle.seen.proofs.Turns.{enter-marked, enter-free}
 use Rattle.seen.proofs.enter.Statement.{statement}
 use Rattle.seen.proofs.enter.Tie as tie
 
-slot1-requires : tie.Need-slot1-requires
-slot1-requires c κs = search needs
+find-requires : tie.Need-find-requires
+find-requires c κs = search needs
 
-slot2-requires : tie.Need-slot2-requires
-slot2-requires c κs = search needs
+enum-told : tie.Need-enum-told
+enum-told c = search needs
 
-slot3-requires : tie.Need-slot3-requires
-slot3-requires c κs = search needs
+enum-known-at : tie.Need-enum-known-at
+enum-known-at c = search needs
 
-element-write-table : tie.Need-element-write-table
-element-write-table c = search needs
+mul-table : tie.Need-mul-table
+mul-table c =
+    let b = free-below _ _ (c .before .before .before .before .before .before .pre .least) (c .before .before .before .find .ensures) (c .before .at .given .1) in omega arith
 
-element-write-table-2 : tie.Need-element-write-table-2
-element-write-table-2 c = search needs
+slice-write-table : tie.Need-slice-write-table
+slice-write-table c = free-below _ _ (c .before .before .before .before .before .before .pre .least) (c .before .before .before .find .ensures) (c .before .at .given .1)
 
-element-write-table-3 : tie.Need-element-write-table-3
-element-write-table-3 c = search needs
+same-length : tie.Need-same-length
+same-length c = search needs
 
 returns : tie.Need-returns
-returns c = stores-three _ _ (c .before .before .slot1 .ensures .0) (c .before .slot2 .ensures .0) (c .slot3 .ensures .0)
+returns c = enter-marked _ _ (c .before .before .find .ensures) (c .enum-told .given .1)
+
+same-length-2 : tie.Need-same-length-2
+same-length-2 c = search needs
+
+returns-2 : tie.Need-returns-2
+returns-2 c = enter-free _ _ (c .before .before .before .find .ensures) (c .before .at .given .1)
 
 pub enter-spec : {M : Type 1} → statement M
 enter-spec =
     tie.close
     (tie.spec
-    slot1-requires
-    slot2-requires
-    slot3-requires
-    element-write-table
-    element-write-table-2
-    element-write-table-3
-    returns)
+    find-requires
+    enum-told
+    enum-known-at
+    mul-table
+    slice-write-table
+    same-length
+    returns
+    same-length-2
+    returns-2)

@@ -2,6 +2,8 @@
 -- Assumes nothing.
 use Rattle.schema.proofs.Nested.{member, schema-deep, schema-wrong, schema-word, schema-array, schema-map, schema-union, schema-record, schema-enum, schema-fixed, part-old, part-none, part-one, union-old, union-rows, record-bad, record-none, record-fields, fields-bad, fields-end, fields-done, fields-next, element-none, element-field, field-stop, field-untyped, field-typed}
 use Rattle.schema.proofs.Steps.{each-done, each-next}
+use Rattle.schema.proofs.Stands.{member-is, sure-here, sure-next, sure-start}
+use Rattle.rules.specs.Members.{SureOf}
 use Rattle.schema.proofs.Within.{array-within, map-within, union-within}
 use Rattle.schema.proofs.Did.{did-bad, did-none, did-eq, did-stop, did-then, titled-front}
 use Rattle.schema.specs.Did.{Did}
@@ -43,6 +45,8 @@ use Rattle.form.proofs.find.Reads as find-reads
 use Rattle.form.proofs.as_array.Reads as as-array-reads
 use Rattle.form.proofs.is_object.Reads as is-object-reads
 use Rattle.rules.proofs.new_kind.Reads as new-kind-reads
+use Rattle.rules.proofs.stands.Reads as stands-reads
+use Rattle.rules.proofs.surely_new.Reads as surely-new-reads
 use Rattle.name.proofs.namespace_part.Reads as namespace-part-reads
 use Rattle.schema.proofs.definitions.define.Reads as define-reads
 use Rattle.schema.proofs.definitions.put_enum.Reads as put-enum-reads
@@ -140,7 +144,7 @@ abbrev put-schema-calls : ℕ → put-schema-lts.Claims
 put-schema-calls t = (find-reads.Asked, find-reads.Learnt, put-word-reads.Asked, put-word-reads.Learnt, put-part-below t, put-part.Post, put-union-below t, put-union.Post, put-record-below t, put-record.Post, put-enum-reads.Asked, put-enum-reads.Learnt, put-fixed-reads.Asked, put-fixed-reads.Learnt)
 
 abbrev put-union-calls : ℕ → put-union-lts.Claims
-put-union-calls t = (new-kind-reads.Asked, new-kind-reads.Learnt, put-reads.Asked, put-reads.Learnt, first-element-reads.Asked, first-element-reads.Learnt, put-schema-below t, put-schema.Post, next-element-reads.Asked, next-element-reads.Learnt)
+put-union-calls t = (new-kind-reads.Asked, new-kind-reads.Learnt, surely-new-reads.Asked, surely-new-reads.Learnt, put-reads.Asked, put-reads.Learnt, first-element-reads.Asked, first-element-reads.Learnt, stands-reads.Asked, stands-reads.Learnt, put-schema-below t, put-schema.Post, next-element-reads.Asked, next-element-reads.Learnt)
 
 put-field-is-object-requires : (t : ℕ) → put-field-lts.Need-is-object-requires (put-field-calls t) (put-field-at t) put-field.Post
 put-field-is-object-requires t c κs = search needs
@@ -226,7 +230,7 @@ put-fields-same-length t c = search needs
 
 put-fields-returns : (t : ℕ) → put-fields-lts.Need-returns (put-fields-calls t) (put-fields-at t) put-fields.Post put-fields-Inv-loop put-fields-μ-loop
 put-fields-returns t c =
-    fields-end _ _ _ _ (c .before .before .before .before .before .first-element .ensures) (c .before .before .before .before .loop .inv .1 _ _ (did-eq (fields-done _ _ _ (c .before .before .enum-told .given .1)) (did-none _ _))) (c .named-apart .ensures)
+    fields-end _ _ _ _ (c .before .before .before .before .first-element .ensures) (c .before .before .before .loop .inv .1 _ _ (did-eq (fields-done _ _ _ (c .before .enum-told .given .1)) (did-none _ _))) (c .named-apart .ensures)
 
 put-fields-put-field-requires : (t : ℕ) → put-fields-lts.Need-put-field-requires (put-fields-calls t) (put-fields-at t) put-fields.Post put-fields-Inv-loop put-fields-μ-loop
 put-fields-put-field-requires t c κs =
@@ -477,13 +481,14 @@ put-schema-returns-9 t c =
     did-eq (schema-fixed _ _ _ _ _ (c .before .before .before .before .before .before .before .before .before .before .if1 .left) (c .before .before .before .before .before .before .before .before .before .find .ensures) (c .before .before .before .before .before .before .form8 .given .1)) (c .before .before .put-fixed .ensures)
 
 abbrev put-union-Inv-loop : put-union-lts.InvT-loop
-put-union-Inv-loop text ends namespace at depth left draft₀ word₀ sum₀ spot₀ draft word sum spot =
+put-union-Inv-loop text ends namespace at depth left draft₀ word₀ sure sum₀ spot₀ draft word sum spot =
     (length draft ≡ length draft₀)
     × ((m : List ℕ) (r : Walked) → Did draft sum m r (each (member (schemaOf left text) namespace depth at) (elementsAt text spot))
     → Did draft₀ sum₀ m r (each (member (schemaOf left text) namespace depth at) (elementsAt text spot₀)))
+    × SureOf text namespace at sure (elementsAt text spot)
 
 abbrev put-union-μ-loop : put-union-lts.MeasureT-loop
-put-union-μ-loop text ends namespace at depth left draft₀ word₀ sum₀ spot₀ draft word sum spot = length (elementsAt text spot)
+put-union-μ-loop text ends namespace at depth left draft₀ word₀ sure sum₀ spot₀ draft word sum spot = length (elementsAt text spot)
 
 put-union-new-kind-requires : (t : ℕ) → put-union-lts.Need-new-kind-requires (put-union-calls t) (put-union-at t) put-union.Post put-union-Inv-loop put-union-μ-loop
 put-union-new-kind-requires t c κs = search needs
@@ -498,17 +503,23 @@ put-union-returns t c =
 put-union-enum-told : (t : ℕ) → put-union-lts.Need-enum-told (put-union-calls t) (put-union-at t) put-union.Post put-union-Inv-loop put-union-μ-loop
 put-union-enum-told t c = search needs
 
+put-union-surely-new-requires : (t : ℕ) → put-union-lts.Need-surely-new-requires (put-union-calls t) (put-union-at t) put-union.Post put-union-Inv-loop put-union-μ-loop
+put-union-surely-new-requires t c κs =
+    (c .before .before .before .before .before .before .before .before .pre .1 .0 .short, c .before .before .before .before .before .before .before .before .pre .1 .2)
+
 put-union-slice-aggregate-put : (t : ℕ) → put-union-lts.Need-slice-aggregate-put (put-union-calls t) (put-union-at t) put-union.Post put-union-Inv-loop put-union-μ-loop
 put-union-slice-aggregate-put t c = search needs
 
 put-union-put-requires : (t : ℕ) → put-union-lts.Need-put-requires (put-union-calls t) (put-union-at t) put-union.Post put-union-Inv-loop put-union-μ-loop
-put-union-put-requires t c κs = c .before .before .before .before .before .before .before .before .before .pre .1 .1
+put-union-put-requires t c κs =
+    c .before .before .before .before .before .before .before .before .before .before .before .pre .1 .1
 
 put-union-first-element-requires : (t : ℕ) → put-union-lts.Need-first-element-requires (put-union-calls t) (put-union-at t) put-union.Post put-union-Inv-loop put-union-μ-loop
 put-union-first-element-requires t c κs = search needs
 
 put-union-loop-holds : (t : ℕ) → put-union-lts.Need-loop-holds (put-union-calls t) (put-union-at t) put-union.Post put-union-Inv-loop put-union-μ-loop
-put-union-loop-holds t c = (refl, λ m r d. d)
+put-union-loop-holds t c =
+    (refl, (λ m r d. d), sure-start _ _ _ _ (c .before .before .before .before .before .before .surely-new .ensures) (c .first-element .ensures))
 
 put-union-enum-known-spot : (t : ℕ) → put-union-lts.Need-enum-known-spot (put-union-calls t) (put-union-at t) put-union.Post put-union-Inv-loop put-union-μ-loop
 put-union-enum-known-spot t c = search needs
@@ -521,15 +532,18 @@ put-union-same-length t c = search needs
 
 put-union-returns-2 : (t : ℕ) → put-union-lts.Need-returns-2 (put-union-calls t) (put-union-at t) put-union.Post put-union-Inv-loop put-union-μ-loop
 put-union-returns-2 t c =
-    union-rows _ _ _ _ _ _ (c .before .before .before .before .before .before .before .before .before .before .before .new-kind .ensures) (c .before .before .before .before .before .before .before .before .before .enum-told .given .1) (c .before .before .before .before .before .before .put .ensures) (c .before .before .before .first-element .ensures) (c .before .before .loop .inv .1 _ _ (did-eq (each-done _ _ (c .enum-told2 .given .1)) (did-none _ _)))
+    union-rows _ _ _ _ _ _ (c .before .before .before .before .before .before .before .before .before .before .before .before .before .new-kind .ensures) (c .before .before .before .before .before .before .before .before .before .before .before .enum-told .given .1) (c .before .before .before .before .before .before .put .ensures) (c .before .before .before .first-element .ensures) (c .before .before .loop .inv .1 _ _ (did-eq (each-done _ _ (c .enum-told2 .given .1)) (did-none _ _)))
+
+put-union-stands-requires : (t : ℕ) → put-union-lts.Need-stands-requires (put-union-calls t) (put-union-at t) put-union.Post put-union-Inv-loop put-union-μ-loop
+put-union-stands-requires t c κs = search needs
 
 put-union-add-put-schema : (t : ℕ) → put-union-lts.Need-add-put-schema (put-union-calls t) (put-union-at t) put-union.Post put-union-Inv-loop put-union-μ-loop
 put-union-add-put-schema t c =
-    let b = c .before .before .before .before .before .before .before .before .before .before .before .before .before .before .before .before .before .pre .1 .0 .deep in omega arith
+    let b = c .before .before .before .before .before .before .before .before .before .before .before .before .before .before .before .before .before .before .before .before .pre .1 .0 .deep in omega arith
 
 put-union-put-schema-requires : (t : ℕ) → put-union-lts.Need-put-schema-requires (put-union-calls t) (put-union-at t) put-union.Post put-union-Inv-loop put-union-μ-loop
 put-union-put-schema-requires t c κs =
-    (omega arith, (c .before .before .before .before .before .before .before .before .before .before .before .before .before .before .before .before .before .before .before .pre .1 .0, c .before .before .before .before .before .before .before .before .before .before .before .before .before .before .before .before .before .before .before .pre .1 .2))
+    let z = c .before .before .before .before .before .before .before .before .before .before .before .before .before .before .before .before .before .before .before .before .before .before .pre .0 in (omega arith, (c .before .before .before .before .before .before .before .before .before .before .before .before .before .before .before .before .before .before .before .before .before .before .pre .1 .0, c .before .before .before .before .before .before .before .before .before .before .before .before .before .before .before .before .before .before .before .before .before .before .pre .1 .2))
 
 put-union-enum-known-f-2 : (t : ℕ) → put-union-lts.Need-enum-known-f-2 (put-union-calls t) (put-union-at t) put-union.Post put-union-Inv-loop put-union-μ-loop
 put-union-enum-known-f-2 t c = search needs
@@ -539,21 +553,22 @@ put-union-same-length-2 t c = search needs
 
 put-union-returns-3 : (t : ℕ) → put-union-lts.Need-returns-3 (put-union-calls t) (put-union-at t) put-union.Post put-union-Inv-loop put-union-μ-loop
 put-union-returns-3 t c =
-    union-rows _ _ _ _ _ _ (c .before .before .before .before .before .before .before .before .before .before .before .before .before .before .before .before .before .before .before .before .new-kind .ensures) (c .before .before .before .before .before .before .before .before .before .before .before .before .before .before .before .before .before .before .enum-told .given .1) (c .before .before .before .before .before .before .before .before .before .before .before .before .before .before .before .put .ensures) (c .before .before .before .before .before .before .before .before .before .before .before .before .first-element .ensures) (c .before .before .before .before .before .before .before .before .before .before .before .loop .inv .1 _ _ (did-eq (each-next _ _ (c .before .before .before .before .before .before .before .before .before .spot .given .1) refl) (did-stop _ _ (c .before .before .before .before .before .put-schema .ensures) (c .before .f2 .given .1))))
+    union-rows _ _ _ _ _ _ (c .before .before .before .before .before .before .before .before .before .before .before .before .before .before .before .before .before .before .before .before .before .before .before .new-kind .ensures) (c .before .before .before .before .before .before .before .before .before .before .before .before .before .before .before .before .before .before .before .before .before .enum-told .given .1) (c .before .before .before .before .before .before .before .before .before .before .before .before .before .before .before .before .put .ensures) (c .before .before .before .before .before .before .before .before .before .before .before .before .before .first-element .ensures) (c .before .before .before .before .before .before .before .before .before .before .before .before .loop .inv .1 _ _ (did-eq (each-next _ _ (c .before .before .before .before .before .before .before .before .before .before .spot .given .1) refl) (did-stop _ _ (did-eq (member-is (c .before .before .before .before .before .before .before .before .before .before .before .before .before .before .before .before .before .before .before .before .before .before .before .before .before .before .before .before .args .text .now) (c .before .before .before .before .before .before .before .before .before .before .before .before .before .before .before .before .before .before .before .before .before .before .before .before .before .before .before .before .args .namespace .now) (c .before .before .before .before .before .before .before .before .before .before .before .before .before .before .before .before .before .before .before .before .before .before .before .before .before .before .before .before .args .at) _ (c .before .before .before .before .before .before .before .before .before .before .before .before .before .before .before .before .before .before .before .before .before .before .before .before .before .before .before .before .args .left) _ _ (c .before .before .before .before .before .before .before .before .stands .ensures) (sure-here _ _ _ _ (c .before .before .before .before .before .before .before .before .before .before .before .before .loop .inv .2) (c .before .before .before .before .before .before .before .before .before .before .spot .given .1))) (c .before .before .before .before .before .put-schema .ensures)) (c .before .f2 .given .1))))
 
 put-union-enum-known-next : (t : ℕ) → put-union-lts.Need-enum-known-next (put-union-calls t) (put-union-at t) put-union.Post put-union-Inv-loop put-union-μ-loop
 put-union-enum-known-next t c = search needs
 
 put-union-next-element-requires : (t : ℕ) → put-union-lts.Need-next-element-requires (put-union-calls t) (put-union-at t) put-union.Post put-union-Inv-loop put-union-μ-loop
-put-union-next-element-requires t c κs = c .before .before .before .before .before .before .before .before .before .before .before .before .before .before .before .before .before .before .before .before .before .before .before .before .before .pre .1 .2
+put-union-next-element-requires t c κs =
+    c .before .before .before .before .before .before .before .before .before .before .before .before .before .before .before .before .before .before .before .before .before .before .before .before .before .before .before .before .pre .1 .2
 
 put-union-loop-less : (t : ℕ) → put-union-lts.Need-loop-less (put-union-calls t) (put-union-at t) put-union.Post put-union-Inv-loop put-union-μ-loop
 put-union-loop-less t c =
-    visit-less _ (c .before .before .before .before .before .before .before .before .before .before .spot .given .1) (c .next-element .ensures)
+    visit-less _ (c .before .before .before .before .before .before .before .before .before .before .before .spot .given .1) (c .next-element .ensures)
 
 put-union-loop-again : (t : ℕ) → put-union-lts.Need-loop-again (put-union-calls t) (put-union-at t) put-union.Post put-union-Inv-loop put-union-μ-loop
 put-union-loop-again t c =
-    (search needs, λ m r d. c .before .before .before .before .before .before .before .before .before .before .before .before .loop .inv .1 m r (did-eq (each-next _ _ (c .before .before .before .before .before .before .before .before .before .before .spot .given .1) (c .next-element .ensures)) (did-then _ _ (c .before .before .before .before .before .before .put-schema .ensures) (c .before .before .next .given .1) d)))
+    (search needs, (λ m r d. c .before .before .before .before .before .before .before .before .before .before .before .before .before .loop .inv .1 m r (did-eq (each-next _ _ (c .before .before .before .before .before .before .before .before .before .before .before .spot .given .1) (c .next-element .ensures)) (did-then _ _ (did-eq (member-is (c .before .before .before .before .before .before .before .before .before .before .before .before .before .before .before .before .before .before .before .before .before .before .before .before .before .before .before .before .before .args .text .now) (c .before .before .before .before .before .before .before .before .before .before .before .before .before .before .before .before .before .before .before .before .before .before .before .before .before .before .before .before .before .args .namespace .now) (c .before .before .before .before .before .before .before .before .before .before .before .before .before .before .before .before .before .before .before .before .before .before .before .before .before .before .before .before .before .args .at) _ (c .before .before .before .before .before .before .before .before .before .before .before .before .before .before .before .before .before .before .before .before .before .before .before .before .before .before .before .before .before .args .left) _ _ (c .before .before .before .before .before .before .before .before .before .stands .ensures) (sure-here _ _ _ _ (c .before .before .before .before .before .before .before .before .before .before .before .before .before .loop .inv .2) (c .before .before .before .before .before .before .before .before .before .before .before .spot .given .1))) (c .before .before .before .before .before .before .put-schema .ensures)) (c .before .before .next .given .1) d))), sure-next _ _ _ _ (c .before .before .before .before .before .before .before .before .before .before .before .before .before .loop .inv .2) (c .before .before .before .before .before .before .before .before .before .before .before .spot .given .1) (c .next-element .ensures))
 
 pub +put-field+put-fields+put-part+put-record+put-schema+put-union-spec :
     {M : Type 1} → statement M
@@ -680,6 +695,7 @@ pub +put-field+put-fields+put-part+put-record+put-schema+put-union-spec :
     (put-union-enum-known-f t)
     (put-union-returns t)
     (put-union-enum-told t)
+    (put-union-surely-new-requires t)
     (put-union-slice-aggregate-put t)
     (put-union-put-requires t)
     (put-union-first-element-requires t)
@@ -688,6 +704,7 @@ pub +put-field+put-fields+put-part+put-record+put-schema+put-union-spec :
     (put-union-enum-told-2 t)
     (put-union-same-length t)
     (put-union-returns-2 t)
+    (put-union-stands-requires t)
     (put-union-add-put-schema t)
     (put-union-put-schema-requires t)
     (put-union-enum-known-f-2 t)

@@ -2,7 +2,7 @@
 -- Assumes nothing.
 use mathlib.Core.Path.{_≡_, ap}
 use mathlib.Core.List.{List}
-use Prim.Native.Nat.{ℕ, _<_}
+use Prim.Native.Nat.{ℕ}
 use native.Mathlib.Omega.{arith}
 use borrow.Author.Needs.{needs}
 use lib.ListN.{length}
@@ -14,7 +14,7 @@ use Rattle.view.proofs.marks.spelled_mark.Statement.{statement}
 use Rattle.view.proofs.marks.spelled_mark.Tie as tie
 
 abbrev Inv-loop : tie.InvT-loop
-Inv-loop text at c₀ h₀ c h = Within text c × (h < 4294967296) × (markFrom h (leftOf text c) ≡ markOf (stringAt text at))
+Inv-loop text at c₀ h₀ c h = Within text c × (markFrom h (leftOf text c) ≡ markOf (stringAt text at))
 
 abbrev μ-loop : tie.MeasureT-loop
 μ-loop text at c₀ h₀ c h = length (leftOf text c)
@@ -23,7 +23,7 @@ opening-requires : tie.Need-opening-requires Inv-loop μ-loop
 opening-requires c κs = search needs
 
 loop-holds : tie.Need-loop-holds Inv-loop μ-loop
-loop-holds c = (c .opening .ensures .1, omega arith, ap (λ (l : List ℕ). markOf l) (c .opening .ensures .0))
+loop-holds c = (c .opening .ensures .1, ap (λ (l : List ℕ). markOf l) (c .opening .ensures .0))
 
 next-byte-requires : tie.Need-next-byte-requires Inv-loop μ-loop
 next-byte-requires c κs = c .loop .inv .0
@@ -33,19 +33,13 @@ enum-told c = search needs
 
 returns : tie.Need-returns Inv-loop μ-loop
 returns c =
-    mark-end _ _ _ (c .before .before .before .loop .inv .2) (read-end (c .before .before .next-byte .ensures) (c .enum-told .given .1))
+    mark-end _ _ _ (c .before .before .before .loop .inv .1) (read-end (c .before .before .next-byte .ensures) (c .enum-told .given .1))
 
 enum-known-b : tie.Need-enum-known-b Inv-loop μ-loop
 enum-known-b c = search needs
 
-mul-h : tie.Need-mul-h Inv-loop μ-loop
-mul-h c = search needs
-
-wide-requires : tie.Need-wide-requires Inv-loop μ-loop
-wide-requires c κs = search needs
-
-add-h : tie.Need-add-h Inv-loop μ-loop
-add-h c = search needs
+more-requires : tie.Need-more-requires Inv-loop μ-loop
+more-requires c κs = search needs
 
 loop-less : tie.Need-loop-less Inv-loop μ-loop
 loop-less c =
@@ -55,7 +49,7 @@ loop-again : tie.Need-loop-again Inv-loop μ-loop
 loop-again c =
     let r = c .before .before .before .before .next-byte .ensures in
     let g = c .before .before .b .given .1 in
-    (read-within r g, omega arith, mark-turn _ _ _ (c .before .before .before .before .before .loop .inv .2) (read-byte r g) (c .wide .ensures .0))
+    (read-within r g, mark-turn _ _ _ (c .before .before .before .before .before .loop .inv .1) (read-byte r g) (c .more .ensures))
 
 pub spelled-mark-spec : {M : Type 1} → statement M
 spelled-mark-spec =
@@ -69,8 +63,6 @@ spelled-mark-spec =
     enum-told
     returns
     enum-known-b
-    mul-h
-    wide-requires
-    add-h
+    more-requires
     loop-less
     loop-again)
