@@ -40,7 +40,7 @@ unfolding enteredAll
 holds-all [] table taken h l = rw append-nil h
 holds-all (s ∷ ss) table taken h l =
     subst (λ (z : List (List ℕ)). Holds (enteredAll (entered table (markOf s)) ss) z) (append-assoc taken (s ∷ []) ss)
-    (holds-all ss (entered table (markOf s)) (taken ++ (s ∷ [])) (holds-more h s (l .least)) (sized-as l (length-entered table (markOf s))))
+    (holds-all ss (entered table (markOf s)) (taken ++ (s ∷ [])) (holds-more h s (l .some)) (sized-as l (length-entered table (markOf s))))
 
 -- one, then the others
 pub entered-first : (s : List ℕ) (ss : List (List ℕ)) (table : List ℕ) {table₁ table₂ : List ℕ} {m : ℕ} → m ≡ markOf s → table₁ ≡ entered table m

@@ -183,7 +183,7 @@ module _ (t namespace : List ℕ) (u : ℕ) where
               record {
                 past = inv .past ++ (q ∷ []);
                 passed = passed-next (inv .passed) e j;
-                held = rw (m, f .1) (holds-more (inv .held) (keyAt t namespace q) (inv .sized .least));
+                held = rw (m, f .1) (holds-more (inv .held) (keyAt t namespace q) (inv .sized .some));
                 sized = sized-as (inv .sized) (ap length (f .1) ∙ length-entered table (markOf (keyAt t namespace q)));
                 fine = all-snoc (λ q. memberCheck t namespace u q ≡ Fine) (inv .past) q (inv .fine) (f .0);
               }

@@ -179,9 +179,13 @@ pub fn field_names(text: &[u8], ends: &[u16], array: usize) -> Check
         let mut few: [u64; 256] = [0; 256];
         return all_names(text, ends, array, &mut few);
     }
-    if long < 8192 {
-        let mut some: [u64; 2048] = [0; 2048];
+    if long < 4096 {
+        let mut some: [u64; 1024] = [0; 1024];
         return all_names(text, ends, array, &mut some);
+    }
+    if long < 8192 {
+        let mut more: [u64; 2048] = [0; 2048];
+        return all_names(text, ends, array, &mut more);
     }
     let mut many: [u64; 8192] = [0; 8192];
     all_names(text, ends, array, &mut many)

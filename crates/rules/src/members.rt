@@ -144,17 +144,24 @@ pub fn surely_new(
     requires { ⌜ (length (now text) ≤ 32768) × Known (now text) (now ends) ⌝ }
     ensures { λ r. ⌜ Sure (now (text .entry)) (now (namespace .entry)) array r ⌝ }
 {
+    let long = bytes_at(text, ends, array);
+    if long < 48 {
+        return 0;
+    }
     if is_small(text, ends, array) {
         return 0;
     }
-    let long = bytes_at(text, ends, array);
-    if long < 512 {
+    if long < 1024 {
         let mut few: [u64; 256] = [0; 256];
         return new_until(text, ends, namespace, array, &mut few, word);
     }
     if long < 4096 {
-        let mut some: [u64; 2048] = [0; 2048];
+        let mut some: [u64; 1024] = [0; 1024];
         return new_until(text, ends, namespace, array, &mut some, word);
+    }
+    if long < 8192 {
+        let mut more: [u64; 2048] = [0; 2048];
+        return new_until(text, ends, namespace, array, &mut more, word);
     }
     let mut many: [u64; 8192] = [0; 8192];
     new_until(text, ends, namespace, array, &mut many, word)

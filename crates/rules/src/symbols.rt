@@ -131,13 +131,17 @@ fn each_new(text: &[u8], ends: &[u16], array: usize, word: &mut [u8; 32768]) -> 
     ensures { λ r. ⌜ r ≡ symbolsNew (now (text .entry)) [] (elements (now (text .entry)) array) ⌝ }
 {
     let long = bytes_at(text, ends, array);
-    if long < 512 {
+    if long < 1024 {
         let mut few: [u64; 256] = [0; 256];
         return each_symbol(text, ends, array, &mut few, word);
     }
     if long < 4096 {
-        let mut some: [u64; 2048] = [0; 2048];
+        let mut some: [u64; 1024] = [0; 1024];
         return each_symbol(text, ends, array, &mut some, word);
+    }
+    if long < 8192 {
+        let mut more: [u64; 2048] = [0; 2048];
+        return each_symbol(text, ends, array, &mut more, word);
     }
     let mut many: [u64; 8192] = [0; 8192];
     each_symbol(text, ends, array, &mut many, word)

@@ -1,14 +1,15 @@
 -- Laws of the table: what was entered is marked, and stays so.
 -- Assumes nothing.
 use mathlib.Core.Path.{_≡_, refl, sym, ap, _∙_}
-use mathlib.Core.Bool.{Bool, true, false, cond, _||_, or-false}
+use mathlib.Core.Bool.{Bool, true, false, _||_, or-false}
 use mathlib.Core.List.{List, [], _∷_, _++_}
-use Prim.Native.Nat.{ℕ, zero, suc, _<_, _≤_, _%_}
+use Prim.Native.Nat.{ℕ, zero, suc, _+_, _*_, _/_, _%_, _<_}
+use native.Mathlib.Nat.{mul-lt-mul-of-pos-right}
 use native.Mathlib.Omega.{arith}
-use lib.Dec.{eqb, ltb}
+use lib.Dec.{eqb}
 use lib.ListN.{length, getD, set, length-set}
 use lib.Seq.{getD-set-same, getD-set-other}
-use borrow.Author.Tests.{eqb-true, eqb-false, eq-eqb, ne-eqb, ltb-false}
+use borrow.Author.Tests.{eqb-true, eqb-false, eq-eqb, ne-eqb}
 use Rattle.ground.specs.Bytes.{same}
 use Rattle.ground.proofs.Laws.{never, same-true}
 use Rattle.name.specs.Name.{isOneOf}
@@ -16,29 +17,36 @@ use Rattle.name.proofs.Laws.{one-of-append}
 use Rattle.view.specs.Marks.{markOf}
 use Rattle.seen.specs.declared.Found.{Found}
 use Rattle.seen.specs.declared.Found.the-variants.{Marked, Free}
-use Rattle.seen.specs.Seen.{fewest, Sized, placeIn, firstOf, nextOf, from, foundIn, isThere, isMarked, put, entered, Holds}
+use Rattle.seen.specs.Seen.{Sized, placeIn, from, foundIn, isThere, isMarked, put, entered, Holds}
 
-pub place-below : (size n : ℕ) → fewest ≤ size → placeIn size n < size
+pub place-product : (size x : ℕ) → 0 < size → x < 4294967296 → x * size < 4294967296 * size
+place-product size x l h = mul-lt-mul-of-pos-right h l
+
+pub place-below : (size x : ℕ) → 0 < size → x < 4294967296 → placeIn size x < size
 unfolding placeIn
-place-below size n l = go (ltb size 2048) refl (ltb size 8192) refl
-  where
-    go : (x : Bool) → ltb size 2048 ≡ x → (y : Bool) → ltb size 8192 ≡ y → cond x (n % 256) (cond y (n % 2048) (n % 8192)) < size
-    go true e y f = omega arith
-    go false e true f = let z = ltb-false size 2048 e in omega arith
-    go false e false f = let z = ltb-false size 8192 f in omega arith
+place-below size x l h = let z = place-product size x l h in omega arith
 
 -- ---- one walk over the places of a mark that is not 0
 
 module _ (t : List ℕ) (m : ℕ) where
+  nextOf : ℕ → ℕ
+  nextOf x = (x + m % 4294967296) % 4294967296
+
   -- an empty place, of the table
-  module _ (l : fewest ≤ length t) (i : ℕ) where
-    free-place : (n at : ℕ) → at < length t → from t m n at ≡ Free i → (getD t i 0 ≡ 0) × (i < length t)
-    unfolding from
-    free-place zero at b e = let z : true ≡ false = ap isThere e in never (sym z)
-    free-place (suc n) at b e = go (eqb (getD t at 0) m) refl (eqb (getD t at 0) 0) refl (free-place n (nextOf (length t) m at) (place-below (length t) _ l))
+  module _ (l : 0 < length t) (i : ℕ) where
+    free-place : (n x : ℕ) → x < 4294967296 → from t m n x ≡ Free i → (getD t i 0 ≡ 0) × (i < length t)
+    unfolding from nextOf
+    free-place zero x h e = let z : true ≡ false = ap isThere e in never (sym z)
+    free-place (suc n) x h e = go (eqb (getD t at 0) m) refl (eqb (getD t at 0) 0) refl (free-place n (nextOf x) (omega arith))
       where
-        go : (x : Bool) → eqb (getD t at 0) m ≡ x → (y : Bool) → eqb (getD t at 0) 0 ≡ y
-            → (from t m n (nextOf (length t) m at) ≡ Free i → (getD t i 0 ≡ 0) × (i < length t)) → (getD t i 0 ≡ 0) × (i < length t)
+        at : ℕ
+        at = placeIn (length t) x
+
+        b : at < length t
+        b = place-below (length t) x l h
+
+        go : (y : Bool) → eqb (getD t at 0) m ≡ y → (z : Bool) → eqb (getD t at 0) 0 ≡ z
+            → (from t m n (nextOf x) ≡ Free i → (getD t i 0 ≡ 0) × (i < length t)) → (getD t i 0 ≡ 0) × (i < length t)
         go true p y q f = let z : Marked ≡ Free i = rw p at e in let w : true ≡ false = ap isThere z in never (sym w)
         go false p true q f =
             let z : Free at ≡ Free i = rw (p, q) at e in
@@ -51,39 +59,45 @@ module _ (t : List ℕ) (m : ℕ) where
     apart at h e = h (ap (λ (k : ℕ). getD t k 0) e ∙ empty)
 
     -- what is there is there when an empty place is filled
-    there-stays : (n at : ℕ) → isThere (from t m n at) ≡ true → isThere (from (set t i v) m n at) ≡ true
-    unfolding from
-    there-stays zero at e = refl
-    there-stays (suc n) at e = go (eqb (getD t at 0) m) refl (eqb (getD t at 0) 0) refl (there-stays n (nextOf (length t) m at))
+    there-stays : (n x : ℕ) → isThere (from t m n x) ≡ true → isThere (from (set t i v) m n x) ≡ true
+    unfolding from nextOf
+    there-stays zero x e = refl
+    there-stays (suc n) x e = go (eqb (getD t at 0) m) refl (eqb (getD t at 0) 0) refl (there-stays n (nextOf x))
       where
-        go : (x : Bool) → eqb (getD t at 0) m ≡ x → (y : Bool) → eqb (getD t at 0) 0 ≡ y
-            → (isThere (from t m n (nextOf (length t) m at)) ≡ true → isThere (from (set t i v) m n (nextOf (length t) m at)) ≡ true)
-            → isThere (from (set t i v) m (suc n) at) ≡ true
+        at : ℕ
+        at = placeIn (length t) x
+
+        go : (y : Bool) → eqb (getD t at 0) m ≡ y → (z : Bool) → eqb (getD t at 0) 0 ≡ z
+            → (isThere (from t m n (nextOf x)) ≡ true → isThere (from (set t i v) m n (nextOf x)) ≡ true)
+            → isThere (from (set t i v) m (suc n) x) ≡ true
         go true p y q f =
             let z = eqb-true (getD t at 0) m p in
-            rw (getD-set-other t i at v 0 (apart at (λ (g : getD t at 0 ≡ 0). some (sym z ∙ g))), p)
+            rw (length-set, getD-set-other t i at v 0 (apart at (λ (g : getD t at 0 ≡ 0). some (sym z ∙ g))), p)
         go false p true q f = let z : false ≡ true = rw (p, q) at e in never z
         go false p false q f =
-            rw (getD-set-other t i at v 0 (apart at (eqb-false (getD t at 0) 0 q)), p, q, length-set) (f (rw (p, q) at e))
+            rw (length-set, getD-set-other t i at v 0 (apart at (eqb-false (getD t at 0) 0 q)), p, q) (f (rw (p, q) at e))
 
   -- the mark is there when it fills the place that the walk found
   module _ (i : ℕ) (b : i < length t) where
-    filled-there : (n at : ℕ) → from t m n at ≡ Free i → isThere (from (set t i m) m n at) ≡ true
-    unfolding from
-    filled-there zero at e = refl
-    filled-there (suc n) at e = go (eqb (getD t at 0) m) refl (eqb (getD t at 0) 0) refl (eqb at i) refl (filled-there n (nextOf (length t) m at))
+    filled-there : (n x : ℕ) → from t m n x ≡ Free i → isThere (from (set t i m) m n x) ≡ true
+    unfolding from nextOf
+    filled-there zero x e = refl
+    filled-there (suc n) x e = go (eqb (getD t at 0) m) refl (eqb (getD t at 0) 0) refl (eqb at i) refl (filled-there n (nextOf x))
       where
-        go : (x : Bool) → eqb (getD t at 0) m ≡ x → (y : Bool) → eqb (getD t at 0) 0 ≡ y → (z : Bool) → eqb at i ≡ z
-            → (from t m n (nextOf (length t) m at) ≡ Free i → isThere (from (set t i m) m n (nextOf (length t) m at)) ≡ true)
-            → isThere (from (set t i m) m (suc n) at) ≡ true
-        go x p y q true r f = rw (eqb-true at i r, getD-set-same t i m 0 b, eq-eqb m m refl)
-        go true p y q false r f = let z : Marked ≡ Free i = rw p at e in let w : true ≡ false = ap isThere z in never (sym w)
+        at : ℕ
+        at = placeIn (length t) x
+
+        go : (y : Bool) → eqb (getD t at 0) m ≡ y → (w : Bool) → eqb (getD t at 0) 0 ≡ w → (z : Bool) → eqb at i ≡ z
+            → (from t m n (nextOf x) ≡ Free i → isThere (from (set t i m) m n (nextOf x)) ≡ true)
+            → isThere (from (set t i m) m (suc n) x) ≡ true
+        go y p w q true r f = rw (length-set, eqb-true at i r, getD-set-same t i m 0 b, eq-eqb m m refl)
+        go true p w q false r f = let z : Marked ≡ Free i = rw p at e in let w : true ≡ false = ap isThere z in never (sym w)
         go false p true q false r f =
             let z : Free at ≡ Free i = rw (p, q) at e in
             let w : at ≡ i = cc in
             absurd (eqb-false at i r w)
         go false p false q false r f =
-            rw (getD-set-other t i at m 0 (eqb-false at i r), p, q, length-set) (f (rw (p, q) at e))
+            rw (length-set, getD-set-other t i at m 0 (eqb-false at i r), p, q) (f (rw (p, q) at e))
 
 -- ---- the table
 
@@ -96,31 +110,31 @@ length-entered table m = go (foundIn table m)
     go (Free at) = simp length-set
 
 pub sized-as : {table table₁ : List ℕ} → Sized table → length table₁ ≡ length table → Sized table₁
-sized-as s e = let a = s .least in let b = s .most in record { least = omega arith; most = omega arith }
+sized-as s e = let a = s .some in let b = s .most in record { some = omega arith; most = omega arith }
 
 module _ (t : List ℕ) (m : ℕ) where
   -- an empty place is found for marks alone that are not 0, and by the walk
-  free-found : (i : ℕ) → foundIn t m ≡ Free i → (m ≡ 0 → ⊥) × (from t m (length t) (firstOf (length t) m) ≡ Free i)
+  free-found : (i : ℕ) → foundIn t m ≡ Free i → (m ≡ 0 → ⊥) × (from t m (length t) (m / 4294967296 % 4294967296) ≡ Free i)
   unfolding foundIn
   free-found i e = go (eqb m 0) refl
     where
-      go : (x : Bool) → eqb m 0 ≡ x → (m ≡ 0 → ⊥) × (from t m (length t) (firstOf (length t) m) ≡ Free i)
+      go : (x : Bool) → eqb m 0 ≡ x → (m ≡ 0 → ⊥) × (from t m (length t) (m / 4294967296 % 4294967296) ≡ Free i)
       go true p = let z : Marked ≡ Free i = rw p at e in let w : true ≡ false = ap isThere z in never (sym w)
       go false p = (eqb-false m 0 p, rw p at e)
 
-  free-is : fewest ≤ length t → (i : ℕ) → foundIn t m ≡ Free i → (getD t i 0 ≡ 0) × (i < length t)
-  free-is l i e = free-place t m l i (length t) (firstOf (length t) m) (place-below (length t) _ l) (free-found i e .1)
+  free-is : 0 < length t → (i : ℕ) → foundIn t m ≡ Free i → (getD t i 0 ≡ 0) × (i < length t)
+  free-is l i e = free-place t m l i (length t) (m / 4294967296 % 4294967296) (omega arith) (free-found i e .1)
 
-  pub free-below : fewest ≤ length t → {f : Found} → f ≡ foundIn t m → {i : ℕ} → f ≡ Free i → i < length t
+  pub free-below : 0 < length t → {f : Found} → f ≡ foundIn t m → {i : ℕ} → f ≡ Free i → i < length t
   free-below l e {i} g = free-is l i (sym e ∙ g) .1
 
   -- what is marked stays so
   filled-stays : (n i : ℕ) → isMarked t n ≡ true → getD t i 0 ≡ 0 → (x : Bool) → eqb n 0 ≡ x → isMarked (set t i m) n ≡ true
   unfolding isMarked foundIn
   filled-stays n i e z true p = rw p
-  filled-stays n i e z false p = rw (p, length-set) (there-stays t n (eqb-false n 0 p) i m z (length t) (firstOf (length t) n) (rw p at e))
+  filled-stays n i e z false p = rw (p, length-set) (there-stays t n (eqb-false n 0 p) i m z (length t) (n / 4294967296 % 4294967296) (rw p at e))
 
-  marked-stays : (n : ℕ) → fewest ≤ length t → isMarked t n ≡ true → isMarked (entered t m) n ≡ true
+  marked-stays : (n : ℕ) → 0 < length t → isMarked t n ≡ true → isMarked (entered t m) n ≡ true
   unfolding entered
   marked-stays n l e = go (foundIn t m) refl
     where
@@ -129,7 +143,7 @@ module _ (t : List ℕ) (m : ℕ) where
       go (Free i) p = filled-stays n i e (free-is l i p .0) (eqb n 0) refl
 
   -- what is entered is marked
-  entered-marked : fewest ≤ length t → isMarked (entered t m) m ≡ true
+  entered-marked : 0 < length t → isMarked (entered t m) m ≡ true
   unfolding entered isMarked foundIn
   entered-marked l = go (foundIn t m) refl
     where
@@ -137,7 +151,7 @@ module _ (t : List ℕ) (m : ℕ) where
       go Marked p = ap isThere p
       go (Free i) p =
           let q = free-found i p in
-          rw (ne-eqb m 0 (q .0), length-set) (filled-there t m i (free-is l i p .1) (length t) (firstOf (length t) m) (q .1))
+          rw (ne-eqb m 0 (q .0), length-set) (filled-there t m i (free-is l i p .1) (length t) (m / 4294967296 % 4294967296) (q .1))
 
 -- ---- strings
 
@@ -146,7 +160,7 @@ unfolding isOneOf
 holds-none table = record { holds = λ x e. never e }
 
 module _ {table : List ℕ} {taken : List (List ℕ)} (h : Holds table taken) (x : List ℕ) where
-  pub holds-more : fewest ≤ length table → Holds (entered table (markOf x)) (taken ++ (x ∷ []))
+  pub holds-more : 0 < length table → Holds (entered table (markOf x)) (taken ++ (x ∷ []))
   unfolding isOneOf
   holds-more l = record { holds = λ y e. go y (isOneOf taken y) refl (sym (one-of-append taken (x ∷ []) y) ∙ e) }
     where
@@ -165,7 +179,7 @@ module _ {table : List ℕ} {taken : List (List ℕ)} (h : Holds table taken) (x
 
   -- the same, as calls state it
   module _ {m : ℕ} (e : m ≡ markOf x) where
-    pub enter-holds : {after : List ℕ} → after ≡ entered table m → fewest ≤ length table → Holds after (taken ++ (x ∷ []))
+    pub enter-holds : {after : List ℕ} → after ≡ entered table m → 0 < length table → Holds after (taken ++ (x ∷ []))
     enter-holds f l = rw (f, e) (holds-more l)
 
     pub unmarked-new : {r : Bool} → r ≡ isMarked table m → r ≡ false → isOneOf taken x ≡ false

@@ -3,58 +3,44 @@
 use mathlib.Core.Path.{_≡_, refl, sym, ap, _∙_}
 use mathlib.Core.Bool.{true, false}
 use mathlib.Core.List.{List}
-use Prim.Native.Nat.{ℕ, suc, _-_, _%_, _<_, _≤_}
+use Prim.Native.Nat.{ℕ, suc, _+_, _-_, _/_, _%_, _<_, _≤_}
 use native.Mathlib.Omega.{arith}
 use lib.ListN.{length, getD, set}
-use borrow.Author.Tests.{eq-eqb, ne-eqb, lt-ltb, le-ltb}
+use borrow.Author.Tests.{eq-eqb, ne-eqb}
 use Rattle.seen.specs.declared.Found.{Found}
 use Rattle.seen.specs.declared.Found.the-variants.{Marked, Free}
-use Rattle.seen.specs.Seen.{placeIn, firstOf, nextOf, from, foundIn, isMarked, entered}
-
--- a place, by the table's size
-module _ (size n : ℕ) where
-  pub place-few : size < 2048 → n % 256 ≡ placeIn size n
-  unfolding placeIn
-  place-few l = rw (lt-ltb size 2048 l)
-
-  pub place-some : 2048 ≤ size → size < 8192 → n % 2048 ≡ placeIn size n
-  unfolding placeIn
-  place-some k l = rw (le-ltb size 2048 k, lt-ltb size 8192 l)
-
-  pub place-many : 2048 ≤ size → 8192 ≤ size → n % 8192 ≡ placeIn size n
-  unfolding placeIn
-  place-many k l = rw (le-ltb size 2048 k, le-ltb size 8192 l)
+use Rattle.seen.specs.Seen.{placeIn, from, foundIn, isMarked, entered}
 
 pub found-zero : (t : List ℕ) (m : ℕ) → m ≡ 0 → Marked ≡ foundIn t m
 unfolding foundIn
 found-zero t m e = rw (eq-eqb m 0 e)
 
 -- what is found from a place on is what is found
-pub found-start : (t : List ℕ) (m : ℕ) → (m ≡ 0 → ⊥) → {at : ℕ} → at ≡ firstOf (length t) m → from t m (length t) at ≡ foundIn t m
+pub found-start : (t : List ℕ) (m : ℕ) → (m ≡ 0 → ⊥) → from t m (length t) (m / 4294967296 % 4294967296) ≡ foundIn t m
 unfolding foundIn
-found-start t m n e = rw (ne-eqb m 0 n, e)
+found-start t m n = rw (ne-eqb m 0 n)
 
-module _ (t : List ℕ) (m left at : ℕ) {x : Found} (inv : from t m left at ≡ x) where
-  pub found-end : left ≤ 0 → Marked ≡ x
+module _ (t : List ℕ) (m left x : ℕ) {y : Found} (inv : from t m left x ≡ y) where
+  pub found-end : left ≤ 0 → Marked ≡ y
   unfolding from
   found-end n = let e : left ≡ 0 = omega arith in rw e at inv
 
-  module _ (l : 0 < left) where
-    here : from t m (suc (left - 1)) at ≡ x
-    here = let e : suc (left - 1) ≡ left = omega arith in ap (λ (k : ℕ). from t m k at) e ∙ inv
+  module _ (l : 0 < left) {at : ℕ} (p : at ≡ placeIn (length t) x) where
+    here : from t m (suc (left - 1)) x ≡ y
+    here = let e : suc (left - 1) ≡ left = omega arith in ap (λ (k : ℕ). from t m k x) e ∙ inv
 
-    pub found-mark : {h : ℕ} → h ≡ getD t at 0 → h ≡ m → Marked ≡ x
+    pub found-mark : getD t at 0 ≡ m → Marked ≡ y
     unfolding from
-    found-mark e f = rw (eq-eqb (getD t at 0) m (sym e ∙ f)) at here
+    found-mark f = rw (← p, eq-eqb (getD t at 0) m f) at here
 
-    module _ {h : ℕ} (e : h ≡ getD t at 0) (n : h ≡ m → ⊥) where
-      pub found-free : h ≡ 0 → Free at ≡ x
+    module _ (n : getD t at 0 ≡ m → ⊥) where
+      pub found-free : getD t at 0 ≡ 0 → Free at ≡ y
       unfolding from
-      found-free f = rw (ne-eqb (getD t at 0) m (λ z. n (e ∙ z)), eq-eqb (getD t at 0) 0 (sym e ∙ f)) at here
+      found-free f = rw (← p, ne-eqb (getD t at 0) m n, eq-eqb (getD t at 0) 0 f) at here
 
-      pub found-on : (h ≡ 0 → ⊥) → {next : ℕ} → next ≡ nextOf (length t) m at → from t m (left - 1) next ≡ x
+      pub found-on : (getD t at 0 ≡ 0 → ⊥) → from t m (left - 1) ((x + m % 4294967296) % 4294967296) ≡ y
       unfolding from
-      found-on f g = rw g (rw (ne-eqb (getD t at 0) m (λ z. n (e ∙ z)), ne-eqb (getD t at 0) 0 (λ z. f (e ∙ z))) at here)
+      found-on f = rw (← p, ne-eqb (getD t at 0) m n, ne-eqb (getD t at 0) 0 f) at here
 
 module _ (t : List ℕ) (m : ℕ) {f : Found} (e : f ≡ foundIn t m) where
   pub enter-marked : f ≡ Marked → (true ≡ isMarked t m) × (t ≡ entered t m)

@@ -1,47 +1,36 @@
 -- A table of the marks of strings: what was entered is marked. What was not may be marked too.
 -- Assumes nothing.
-use Prim.Native.Nat.{ℕ, zero, suc, _+_, _*_, _/_, _%_, _<_, _≤_}
+use Prim.Native.Nat.{ℕ, zero, suc, _+_, _*_, _/_, _%_, _<_}
 use mathlib.Core.Path.{_≡_}
 use mathlib.Core.Bool.{Bool, true, false, cond}
 use mathlib.Core.List.{List}
-use lib.Dec.{eqb, ltb}
+use lib.Dec.{eqb}
 use lib.ListN.{length, getD, set}
 use Rattle.name.specs.Name.{isOneOf}
 use Rattle.view.specs.Marks.{markOf}
 use Rattle.seen.specs.declared.Found.{Found}
 use Rattle.seen.specs.declared.Found.the-variants.{Marked, Free}
 
--- the fewest places that a table has; others have 2,048 or 8,192
-abbrev pub fewest : ℕ
-fewest = 256
-
 -- memory that may be a table
 pub record Sized (table : List ℕ) : Type 0 where
-  pub least : fewest ≤ length table
+  pub some : 0 < length table
   pub most : length table < 4294967296
 
--- the place of a number in a table of so many places
+-- the place of a number below 2^32 in a table of so many places
 unfoldable pub placeIn : ℕ → ℕ → ℕ
-placeIn size n = cond (ltb size 2048) (n % 256) (cond (ltb size 8192) (n % 2048) (n % 8192))
+placeIn size x = x * size / 4294967296
 
--- each mark has a first place, and from each place on a next one, at its own distance
-abbrev pub firstOf : ℕ → ℕ → ℕ
-firstOf size m = placeIn size (m / 4294967296)
-
-abbrev pub nextOf : ℕ → ℕ → ℕ → ℕ
-nextOf size m at = placeIn size (at + m % 4294967296 / 2 * 2 + 1)
-
--- from a place on: the mark, or an empty place. After n places it counts as marked
+-- from a number on: the mark, or an empty place. The next number lies at the mark's own distance; after n places it counts as marked
 unfoldable pub from : List ℕ → ℕ → ℕ → ℕ → Found
-from table m zero at = Marked
-from table m (suc n) at =
-    let held = getD table at 0 in
-    let on = from table m n (nextOf (length table) m at) in
-    cond (eqb held m) Marked (cond (eqb held 0) (Free at) on)
+from table m zero x = Marked
+from table m (suc n) x =
+    let at = placeIn (length table) x in
+    let on = from table m n ((x + m % 4294967296) % 4294967296) in
+    cond (eqb (getD table at 0) m) Marked (cond (eqb (getD table at 0) 0) (Free at) on)
 
 -- 0 is an empty place, and so no mark that could be entered: it counts as marked
 unfoldable pub foundIn : List ℕ → ℕ → Found
-foundIn table m = let found = from table m (length table) (firstOf (length table) m) in cond (eqb m 0) Marked found
+foundIn table m = let found = from table m (length table) (m / 4294967296 % 4294967296) in cond (eqb m 0) Marked found
 
 abbrev pub isThere : Found → Bool
 isThere Marked = true

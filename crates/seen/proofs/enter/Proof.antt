@@ -18,10 +18,10 @@ enum-known-at c = search needs
 
 mul-table : tie.Need-mul-table
 mul-table c =
-    let b = free-below _ _ (c .before .before .before .before .before .before .pre .least) (c .before .before .before .find .ensures) (c .before .at .given .1) in omega arith
+    let b = free-below _ _ (c .before .before .before .before .before .before .pre .some) (c .before .before .before .find .ensures) (c .before .at .given .1) in omega arith
 
 slice-write-table : tie.Need-slice-write-table
-slice-write-table c = free-below _ _ (c .before .before .before .before .before .before .pre .least) (c .before .before .before .find .ensures) (c .before .at .given .1)
+slice-write-table c = free-below _ _ (c .before .before .before .before .before .before .pre .some) (c .before .before .before .find .ensures) (c .before .at .given .1)
 
 same-length : tie.Need-same-length
 same-length c = search needs

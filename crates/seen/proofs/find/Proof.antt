@@ -1,44 +1,47 @@
 -- `seen::find` meets its contract: what is found from a place on is what is found.
 -- Assumes nothing.
-use mathlib.Core.Path.{_≡_, refl}
+use mathlib.Core.Path.{_≡_}
 use Prim.Native.Nat.{_<_}
-use native.Mathlib.Omega.{arith}
-use borrow.Author.Needs.{needs}
 use lib.ListN.{length}
 use Rattle.seen.specs.Seen.{from, foundIn}
 use Rattle.seen.proofs.Turns.{found-zero, found-start, found-end, found-mark, found-free, found-on}
+use borrow.Author.Needs.{needs}
+use native.Mathlib.Omega.{arith}
 use Rattle.seen.proofs.find.Statement.{statement}
 use Rattle.seen.proofs.find.Tie as tie
 
 abbrev Inv-loop : tie.InvT-loop
-Inv-loop table mark at₀ left₀ at left = (at < length table) × (from table mark left at ≡ foundIn table mark)
+Inv-loop table mark x₀ left₀ x left = (x < 4294967296) × (from table mark left x ≡ foundIn table mark)
 
 abbrev μ-loop : tie.MeasureT-loop
-μ-loop table mark at₀ left₀ at left = left
+μ-loop table mark x₀ left₀ x left = left
 
 returns : tie.Need-returns Inv-loop μ-loop
 returns c = found-zero _ _ (c .if1 .taken)
 
-first-place-requires : tie.Need-first-place-requires Inv-loop μ-loop
-first-place-requires c κs = c .before .before .pre .least
-
 loop-holds : tie.Need-loop-holds Inv-loop μ-loop
-loop-holds c = (c .first-place .ensures .1, found-start _ _ (c .before .if1 .left) (c .first-place .ensures .0))
+loop-holds c = (omega arith, found-start _ _ (c .if1 .left))
+
+place-requires : tie.Need-place-requires Inv-loop μ-loop
+place-requires c κs =
+    (c .before .before .before .before .pre .some, c .before .before .before .before .pre .most, c .before .loop .inv .0)
 
 mul-held : tie.Need-mul-held Inv-loop μ-loop
-mul-held c = search needs
+mul-held c = let z = c .before .before .before .before .before .pre .most in omega arith
 
 shared-slice-read-held : tie.Need-shared-slice-read-held Inv-loop μ-loop
 shared-slice-read-held c = search needs
 
 returns-2 : tie.Need-returns-2 Inv-loop μ-loop
-returns-2 c = found-mark _ _ _ _ (c .before .before .before .loop .inv .1) (c .before .before .loop-test .taken) refl (c .if2 .taken)
+returns-2 c =
+    found-mark _ _ _ _ (c .before .before .before .before .loop .inv .1) (c .before .before .before .loop-test .taken) (c .before .before .place .ensures .0) (c .if2 .taken)
 
 returns-3 : tie.Need-returns-3 Inv-loop μ-loop
-returns-3 c = found-free _ _ _ _ (c .before .before .before .before .loop .inv .1) (c .before .before .before .loop-test .taken) refl (c .before .if2 .left) (c .if3 .taken)
+returns-3 c =
+    found-free _ _ _ _ (c .before .before .before .before .before .loop .inv .1) (c .before .before .before .before .loop-test .taken) (c .before .before .before .place .ensures .0) (c .before .if2 .left) (c .if3 .taken)
 
-next-place-requires : tie.Need-next-place-requires Inv-loop μ-loop
-next-place-requires c κs = search needs
+add-x : tie.Need-add-x Inv-loop μ-loop
+add-x c = search needs
 
 sub-left : tie.Need-sub-left Inv-loop μ-loop
 sub-left c = search needs
@@ -48,7 +51,7 @@ loop-less c = search needs
 
 loop-again : tie.Need-loop-again Inv-loop μ-loop
 loop-again c =
-    (c .next-place .ensures .1, found-on _ _ _ _ (c .before .before .before .before .before .loop .inv .1) (c .before .before .before .before .loop-test .taken) refl (c .before .before .if2 .left) (c .before .if3 .left) (c .next-place .ensures .0))
+    (omega arith, found-on _ _ _ _ (c .before .before .before .before .before .loop .inv .1) (c .before .before .before .before .loop-test .taken) (c .before .before .before .place .ensures .0) (c .before .if2 .left) (c .if3 .left))
 
 returns-4 : tie.Need-returns-4 Inv-loop μ-loop
 returns-4 c = found-end _ _ _ _ (c .before .loop .inv .1) (c .loop-test .left)
@@ -60,13 +63,13 @@ find-spec =
     Inv-loop
     μ-loop
     returns
-    first-place-requires
     loop-holds
+    place-requires
     mul-held
     shared-slice-read-held
     returns-2
     returns-3
-    next-place-requires
+    add-x
     sub-left
     loop-less
     loop-again

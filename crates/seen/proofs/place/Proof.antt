@@ -1,18 +1,23 @@
 -- `seen::place` meets its contract.
 -- Assumes nothing.
+use Rattle.seen.specs.Seen.{placeIn}
+use Rattle.seen.proofs.Laws.{place-below, place-product}
+use borrow.Author.Needs.{needs}
 use native.Mathlib.Omega.{arith}
-use Rattle.seen.proofs.Turns.{place-few, place-some, place-many}
 use Rattle.seen.proofs.place.Statement.{statement}
 use Rattle.seen.proofs.place.Tie as tie
 
+wide-requires : tie.Need-wide-requires
+wide-requires c κs = search needs
+
+mul-result : tie.Need-mul-result
+mul-result c =
+    let z = place-product (c .before .args .size) (c .before .args .x) (c .before .pre .0) (c .before .pre .2) in rw (c .wide .ensures) (omega arith)
+
 returns : tie.Need-returns
-returns c = (place-few _ _ (c .if1 .taken), omega arith)
-
-returns-2 : tie.Need-returns-2
-returns-2 c = (place-some _ _ (c .before .if1 .left) (c .if2 .taken), omega arith)
-
-returns-3 : tie.Need-returns-3
-returns-3 c = (place-many _ _ (c .before .if1 .left) (c .if2 .left), omega arith)
+unfolding placeIn
+returns c =
+    (rw (c .wide .ensures), rw (c .wide .ensures) (place-below (c .before .args .size) (c .before .args .x) (c .before .pre .0) (c .before .pre .2)))
 
 pub place-spec : {M : Type 1} → statement M
-place-spec = tie.close (tie.spec returns returns-2 returns-3)
+place-spec = tie.close (tie.spec wide-requires mul-result returns)

@@ -3,27 +3,28 @@
 use mathlib.Core.Path.{_≡_, ap}
 use mathlib.Core.List.{List}
 use Prim.Native.Nat.{ℕ}
-use native.Mathlib.Omega.{arith}
-use borrow.Author.Needs.{needs}
 use lib.ListN.{length}
 use Rattle.view.specs.Strings.{stringAt, leftOf, Within}
-use Rattle.view.specs.Marks.{markFrom, markOf}
-use Rattle.view.proofs.Marking.{mark-end, mark-turn}
+use Rattle.view.specs.Marks.{markFrom, markOf, Held}
+use Rattle.view.proofs.Marking.{held-none, mark-end, mark-turn}
 use Rattle.view.proofs.Undone.{read-end, read-byte, read-within}
+use borrow.Author.Needs.{needs}
+use native.Mathlib.Omega.{arith}
 use Rattle.view.proofs.marks.spelled_mark.Statement.{statement}
 use Rattle.view.proofs.marks.spelled_mark.Tie as tie
 
 abbrev Inv-loop : tie.InvT-loop
-Inv-loop text at c₀ h₀ c h = Within text c × (markFrom h (leftOf text c) ≡ markOf (stringAt text at))
+Inv-loop text at c₀ m₀ c m = Within text c × Held m × (markFrom m (leftOf text c) ≡ markOf (stringAt text at))
 
 abbrev μ-loop : tie.MeasureT-loop
-μ-loop text at c₀ h₀ c h = length (leftOf text c)
+μ-loop text at c₀ m₀ c m = length (leftOf text c)
 
 opening-requires : tie.Need-opening-requires Inv-loop μ-loop
 opening-requires c κs = search needs
 
 loop-holds : tie.Need-loop-holds Inv-loop μ-loop
-loop-holds c = (c .opening .ensures .1, ap (λ (l : List ℕ). markOf l) (c .opening .ensures .0))
+loop-holds c =
+    (c .opening .ensures .1, held-none _, ap (λ (l : List ℕ). markOf l) (c .opening .ensures .0))
 
 next-byte-requires : tie.Need-next-byte-requires Inv-loop μ-loop
 next-byte-requires c κs = c .loop .inv .0
@@ -31,15 +32,26 @@ next-byte-requires c κs = c .loop .inv .0
 enum-told : tie.Need-enum-told Inv-loop μ-loop
 enum-told c = search needs
 
+mul-more : tie.Need-mul-more Inv-loop μ-loop
+mul-more c = let z = c .before .before .before .before .loop .inv .1 .few in omega arith
+
+add-more : tie.Need-add-more Inv-loop μ-loop
+add-more c =
+    let z = c .before .before .before .before .before .loop .inv .1 .few in let y = c .before .before .before .before .before .loop .inv .1 .small in omega arith
+
+more-requires : tie.Need-more-requires Inv-loop μ-loop
+more-requires c κs =
+    let z = c .before .before .before .before .before .loop .inv .1 .few in let y = c .before .before .before .before .before .loop .inv .1 .small in omega arith
+
 returns : tie.Need-returns Inv-loop μ-loop
 returns c =
-    mark-end _ _ _ (c .before .before .before .loop .inv .1) (read-end (c .before .before .next-byte .ensures) (c .enum-told .given .1))
+    mark-end _ _ _ (c .before .before .before .before .before .before .loop .inv .2) (read-end (c .before .before .before .before .before .next-byte .ensures) (c .before .before .before .enum-told .given .1)) (c .more .ensures)
 
 enum-known-b : tie.Need-enum-known-b Inv-loop μ-loop
 enum-known-b c = search needs
 
-more-requires : tie.Need-more-requires Inv-loop μ-loop
-more-requires c κs = search needs
+with-byte-requires : tie.Need-with-byte-requires Inv-loop μ-loop
+with-byte-requires c κs = c .before .before .before .before .loop .inv .1
 
 loop-less : tie.Need-loop-less Inv-loop μ-loop
 loop-less c =
@@ -47,9 +59,7 @@ loop-less c =
 
 loop-again : tie.Need-loop-again Inv-loop μ-loop
 loop-again c =
-    let r = c .before .before .before .before .next-byte .ensures in
-    let g = c .before .before .b .given .1 in
-    (read-within r g, mark-turn _ _ _ (c .before .before .before .before .before .loop .inv .1) (read-byte r g) (c .more .ensures))
+    let r = c .before .before .before .before .next-byte .ensures in let g = c .before .before .b .given .1 in (read-within r g, c .with-byte .ensures .1, mark-turn _ _ _ (c .before .before .before .before .before .loop .inv .2) (read-byte r g) (c .with-byte .ensures .0))
 
 pub spelled-mark-spec : {M : Type 1} → statement M
 spelled-mark-spec =
@@ -61,8 +71,11 @@ spelled-mark-spec =
     loop-holds
     next-byte-requires
     enum-told
+    mul-more
+    add-more
+    more-requires
     returns
     enum-known-b
-    more-requires
+    with-byte-requires
     loop-less
     loop-again)
