@@ -430,7 +430,7 @@ def main(where):
     for n in list(range(2, 20)) + [27, 28]:
         assert counts[n] >= 6, ("fewer than six", n)
     stdin = "\n".join(lines) + "\n"
-    assert len(cases) >= 450 and len(stdin) < 1050000, (len(cases), len(stdin))
+    assert len(cases) >= 450 and len(stdin) < 1400000, (len(cases), len(stdin))
     if where != "cases":
         os.makedirs(where, exist_ok=True)
         open(os.path.join(where, "stdin"), "w").write(stdin)

@@ -7,6 +7,7 @@ the positions of all rows. ~40~ stands for the letter n forty times. Rows are wr
 `#NOTE` or `#1,PRECISION,SCALE` where these are not 0, separated by `; `; or `ROWS/BYTES` where only the counts are given.
 """
 import collections
+import itertools
 import json
 import random
 import re
@@ -867,8 +868,8 @@ yes("1,025 rows", "1025/4011", '{"type":"enum","name":"E","symbols":[' + symbols
 yes("700 fields", "1401/3391", '{"type":"record","name":"R","fields":[' + ",".join('{"name":"f%d","type":"R"}' % i for i in range(700)) + "]}")
 yes("16,384 string bytes", "65/16384", '{"type":"enum","name":"~64~","symbols":[' + wide(64) + "]}")
 yes("16,385 string bytes", "65/16385", '{"type":"enum","name":"~65~","symbols":[' + wide(64) + "]}")
-MANY = '{"type":"enum","name":"E","symbols":[' + symbols(4200) + "]}"
-yes("4,201 rows in 32,768 bytes", "4201/19891", MANY + " " * (32768 - len(MANY)))
+LONGEST = '{"type":"enum","name":"E","symbols":[' + symbols(4200) + "]}"
+yes("4,201 rows in 32,768 bytes", "4201/19891", LONGEST + " " * (32768 - len(LONGEST)))
 no(14, "the last of 1,200 symbols", '{"type":"enum","name":"E","symbols":[' + symbols(1200) + ',^"A0"]}')
 no(11, "the last of 500 fields", '{"type":"record","name":"R","fields":[' + ",".join('{"name":"f%d","type":"R"}' % i for i in range(500)) + ',{"name":^"f250","type":"R"}]}')
 
@@ -1711,5 +1712,471 @@ def generated_decimals():
 generated_decimals()
 
 
+# ---- many members, symbols, fields
+#
+# For 11, 14 and 19, and what comes before and behind them: arrays of many elements, and arrays of exact sizes. ^ and @ are those
+# of the names that nearly agree. They stand in a list of their own: sequences.py picks texts of CASES by their number there.
+
+MANY = []
+UNION = "kind: union"
+LETTERS = "abcdefghijklmnopqrstuvwxyzABCDEFGHIJKLMNOPQRSTUVWXYZ"
+
+# A union's member: what tells it apart from others (None: nothing does), its rows with their depth below it, its text. A fault of
+# its own has a number and @ in the text; it is early where it comes before 19 of the same member.
+Member = collections.namedtuple("Member", "key rows text number early", defaults=(0, False))
+
+
+def many(label, number, rows, text):
+    if number:
+        no(number, "many: " + label, text.replace("^", "").replace("@", "^"))
+    else:
+        assert "@" not in text, label
+        yes("many: " + label, "; ".join("%d %s" % r for r in rows), text)
+    MANY.append(CASES.pop())
+
+
+def below(rows, depth):
+    return [(d + depth, r) for d, r in rows]
+
+
+def size_in_bytes(text):
+    return len(unmarked(text.replace("@", ""))[0])
+
+
+def bracketed(texts, size=None):
+    """An array; with a size, of that many bytes from [ to behind ], by white space behind [ and the commas."""
+    gaps = [""] * max(1, len(texts))
+    if size is not None:
+        missing = size - size_in_bytes(bracketed(texts))
+        assert missing >= 0, (size, missing)
+        for i in range(missing):
+            gaps[-1 - i % len(gaps)] += " \n\t\r"[i // len(gaps) % 4]
+    out = "[" + ",".join(g + t for g, t in zip(gaps, texts)) + "]"
+    assert size is None or size_in_bytes(out) == size
+    return out
+
+
+def name_of(i, length, wide=2):
+    """Names of one length that begin and end alike; i is told by one or two letters in the middle."""
+    code = LETTERS[i] if wide == 1 else LETTERS[i // 52] + LETTERS[i % 52]
+    before = (length - wide) // 2
+    assert before >= 0
+    return ("JokZJoK_" * 32)[:before] + code + ("kZ9o_K4J" * 32)[:length - wide - before]
+
+
+def names_of(n, each):
+    """n names, all different, that take `each` bytes a name on the average or a little less."""
+    wide = 1 if n <= 52 else 2
+    first = max(wide, int(each))
+    longer = int(n * (each - first)) if each > first else 0
+    return [name_of(i, first + (1 if 0 < i <= min(longer, n - 2) else 0), wide) for i in range(n)]
+
+
+# letters in other orders: one length, one set of bytes
+TURNED = ["Q" + "".join(p) for p in itertools.permutations("abcde")] + ["Z" + "".join(p) for p in itertools.permutations("abcdef")]
+
+
+# members
+
+def full_of(name, space):
+    return space + "." + undone(name) if space else undone(name)
+
+
+def m_reference(name, full=None, how="%s"):
+    full = full or undone(name)
+    return Member(full, [(0, "reference " + full)], how % ('^"%s"' % name))
+
+
+IN_OBJECT, IN_TWO = '{"type":%s}', '{"doc":"x","type": {"type":%s}}'
+
+
+def m_fixed(name, full=None, space=None, how="%s"):
+    full = full or undone(name)
+    return Member(full, [(0, "fixed %s =3" % full)], how % ('{"type":"fixed","name":^"%s",%s"size":3}' % (name, "" if space is None else '"namespace":"%s",' % space)))
+
+
+def m_enum(name, full=None, n=3):
+    full, symbols = full or undone(name), ["S%d" % i for i in range(n)]
+    return Member(full, [(0, "enum " + full)] + [(1, "symbol " + s) for s in symbols], '{"type":"enum","name":^"%s","symbols":[%s]}' % (name, ",".join('^"%s"' % s for s in symbols)))
+
+
+def m_record(name, full=None, space=None, n=1):
+    full, fields = full or undone(name), ["f%d" % i for i in range(n)]
+    return Member(full, [(0, "record " + full)] + [r for f in fields for r in ((1, "field " + f), (2, "int"))],
+                  '{"type":"record","name":^"%s",%s"fields":[%s]}' % (name, "" if space is None else '"namespace":"%s",' % space, ",".join('{"name":^"%s","type":^"int"}' % f for f in fields)))
+
+
+def m_primitive(kind, how="%s"):
+    return Member("kind: " + kind, [(0, kind)], how % ('^"%s"' % kind))
+
+
+def m_decimal(precision):
+    return Member("kind: bytes", [(0, "bytes #1,%d,0" % precision)], '{"type":^"bytes",%s,"precision":%d}' % (D, precision))
+
+
+def m_array(of="int", how="%s"):
+    return Member("kind: array", [(0, "array"), (1, of)], how % ('^{"type":"array","items":^"%s"}' % of))
+
+
+def m_map(of="int", how="%s"):
+    return Member("kind: map", [(0, "map"), (1, of)], how % ('^{"type":"map","values":^"%s"}' % of))
+
+
+def m_union(how="%s"):
+    return Member(UNION, [], how % '["int"]')
+
+
+def m_holding(name, full, members, more=()):
+    """A record with a union in a field, and one in another where more is given."""
+    rows, text, number = [(0, "record " + full)], [], 0
+    for f, inside in zip("gh", (members, more) if more else (members,)):
+        r, t, n = union_of(inside)
+        rows += [(1, "field " + f)] + below(r, 2)
+        text.append('{"name":^"%s","type":%s}' % (f, t.replace("@", "") if number else t))
+        number = number or n
+    return Member(full, rows, '{"type":"record","name":^"%s","fields":[%s]}' % (name, ",".join(text)), number)
+
+
+def first_fault(members):
+    """The first refusal, for members are checked in order: its number, the member's number from 0 and its marked text."""
+    for i, m in enumerate(members):
+        clash = m.key == UNION or (m.key is not None and m.key in [e.key for e in members[:i]])
+        if m.number and (m.early or not clash):
+            return m.number, i, m.text
+        if clash:
+            return 19, i, "@" + m.text.replace("@", "")
+    return 0, None, None
+
+
+def union_of(members, size=None):
+    """Rows, text and number of a union."""
+    number, fault, marked = first_fault(members)
+    texts = [marked if i == fault else m.text.replace("@", "") for i, m in enumerate(members)]
+    return [(0, "union")] + [r for m in members for r in below(m.rows, 1)], "^" + bracketed(texts, size), number
+
+
+def in_record(space, *types):
+    """Rows and text of a record whose fields have these types, each given by its rows and its text."""
+    full = space + ".R" if space else "R"
+    rows, texts = [(0, "record " + full)], []
+    for i, (r, t) in enumerate(types):
+        rows += [(1, "field u%d" % i)] + below(r, 2)
+        texts.append('{"name":^"u%d","type":%s}' % (i, t))
+    return rows, '{"type":"record","name":^"%s","fields":[%s]}' % (full, ",".join(texts))
+
+
+def many_19(label, number, fault, members, space=None, around=None, size=None):
+    """The number and the member at fault, from 0, are worked out by hand; 0 and None where it is accepted. With a space the union
+    stands in a field of a record there; around is items or values."""
+    assert first_fault(members)[:2] == (number, fault), (label, first_fault(members))
+    rows, text, _ = union_of(members, size)
+    if space is not None:
+        rows, text = in_record(space, (rows, text))
+    if around:
+        kind = "array" if around == "items" else "map"
+        rows, text = [(0, kind)] + below(rows, 1), '^{"type":"%s","%s":%s}' % (kind, around, text)
+    many("%d members, %s" % (len(members), label), number, rows, text)
+
+
+# 1, 2: unions of many members
+
+def references(n, space="", names=None):
+    return [m_reference(s, full_of(s, space)) for s in (names or names_of(n, 3))[:n]]
+
+
+def in_objects(n, space="", names=None):
+    """References, every other one in an object, every sixth in two."""
+    return [m_reference(s, full_of(s, space), IN_TWO if i % 6 == 5 else IN_OBJECT if i % 2 else "%s") for i, s in enumerate((names or names_of(n, 3))[:n])]
+
+
+def fixeds(n, space=""):
+    return [m_fixed(s, full_of(s, space)) for s in names_of(n, 3)]
+
+
+def enums(n, space=""):
+    return [m_enum(s, full_of(s, space), 1 + i % 3) for i, s in enumerate(names_of(n, 4))]
+
+
+def records(n, space=""):
+    return [m_record(s, full_of(s, space), None, i % 3) for i, s in enumerate(names_of(n, 4))]
+
+
+def mixture(n, space=""):
+    """All kinds; every primitive once, one array and one map, where n leaves room for them."""
+    once = [m_primitive("null"), m_array("string"), m_primitive("int", IN_OBJECT), m_primitive("boolean"), m_map(), m_primitive("string"), m_decimal(9), m_primitive("long"), m_primitive("double", IN_TWO), m_primitive("float")]
+    out = []
+    for i, s in enumerate(names_of(n, 4)):
+        full = full_of(s, space)
+        out.append(once[i // 3] if i % 3 == 1 and i // 3 < len(once) else
+                   (m_reference(s, full), m_fixed(s, full), m_record(s, full), m_enum(s, full, 1), m_reference(s, full, IN_OBJECT))[i % 5])
+    return out
+
+
+def at(members, **given):
+    """Members with others in their place: at(members, _8=m) puts m in the place of the ninth."""
+    out = list(members)
+    for k, m in given.items():
+        out[int(k[1:])] = m
+    return out
+
+
+def like(member, how=None):
+    """A reference spelt with the member's full name, plain or with escapes."""
+    return m_reference(spelt(member.key, how, True) if how else member.key)
+
+
+LONG_SPACE = long_name(99) + "." + long_name(100)
+assert len(LONG_SPACE) == 200
+
+many_19("references that differ in the order of their letters", 0, None, references(40, names=TURNED))
+many_19("references and objects in a namespace", 0, None, in_objects(130, "a.b"), "a.b")
+many_19("references of 3 bytes", 0, None, references(300))
+many_19("records with a reference to each name in another namespace", 0, None, records(11, "n") + [m_reference("m." + m.key[2:]) for m in records(11, "n")], "n")
+many_19("all kinds", 0, None, mixture(40, "x"), "x")
+many("12 fixeds and 9 enums in two unions", 0, *in_record("n", union_of(fixeds(12, "n"))[:2], union_of(enums(9, "n"))[:2]))
+many_19("dotted names that do not look at their namespace, however bad", 0, None,
+        [m_fixed("a.F%d" % i, None, ("a", "b", "1-", "a.", ".", "a..b", "~256~", " ", "")[i]) for i in range(9)] + [m_reference("b.F1"), m_reference("F8")])
+many_19("references that end alike behind namespaces of 200 bytes", 0, None, [m_reference(LONG_SPACE[:100 + 10 * i] + "X" + LONG_SPACE[101 + 10 * i:] + ".J") for i in range(9)])
+
+BAD = {4: "@7", 5: '@{"name":"x","items":"int"}', 6: '@{"type":"record","name":null,"fields":[]}', 7: '"a.b@-c"', 8: '{"type":"enum","name":@"long","symbols":[]}', 9: '@"~256~"',
+       10: '@{"type":"record","name":"Bad","fields":{}}', 12: '@{"type":"enum","name":"Bad","symbols":5}', 13: '{"type":"enum","name":"Bad","symbols":["A",@5,"A"]}',
+       14: '{"type":"enum","name":"Bad","symbols":["A","B",@"A","B"]}', 17: '@{"type":"fixed","name":"Bad"}', 18: '{"type":"fixed","name":"Bad","size":@-1}', 27: '@{"type":"array"}', 28: '@{"type":"map"}'}
+
+
+def bad_member(number):
+    return Member(None, [], BAD[number], number)
+
+
+def clashes():
+    r = references
+    many_19("the first and the last", 19, 8, at(r(9), _8=r(1)[0]))
+    many_19("the first and the second, the second in an object", 19, 1, at(in_objects(10), _1=m_reference(names_of(10, 3)[0], None, IN_OBJECT)))
+    many_19("the eighth and the ninth, then 4 and 5", 19, 8, at(fixeds(11), _8=fixeds(11)[7], _9=bad_member(4), _10=bad_member(5)))
+    many_19("the ninth and the tenth, an enum and a record, then 6 and 7", 19, 9, at(enums(12), _9=m_record(enums(12)[8].key), _10=bad_member(6), _11=bad_member(7)))
+    many_19("the last two, one with an escape", 19, 9, at(mixture(10, "x"), _9=like(mixture(10, "x")[8], "last")), "x")
+    many_19("two in the middle, a plain name and the full one, then 8 and 9", 19, 6, at(r(12, "n"), _6=like(r(12, "n")[5]), _10=bad_member(8), _11=bad_member(9)), "n")
+    many_19("the first and the last, the full name first, 200 bytes of namespace", 19, 39, at(r(40, LONG_SPACE), _0=like(r(40, LONG_SPACE)[39], "first")), LONG_SPACE)
+    many_19("the last two, a plain name and the full one, 200 bytes of namespace", 19, 11, at(in_objects(12, LONG_SPACE), _11=like(r(12, LONG_SPACE)[10])), LONG_SPACE)
+    many_19("the ninth and the tenth, a leading dot and an empty namespace, then 10", 19, 9, at(in_objects(40, "n"), _8=m_reference(".Top", "Top"), _9=m_fixed("Top", "Top", ""), _11=bad_member(10)), "n")
+    many_19("the first and the last, a namespace and a dotted name", 19, 11, at(fixeds(12, "a.b"), _0=m_record("Far", "c.d.Far", "c.d"), _11=m_reference("c.d.Far")), "a.b")
+    many_19("the eighth and the ninth, a dotted name with another namespace, then 12", 19, 8, at(records(12), _7=m_record("a.Rec", None, "b"), _8=m_record("Rec", "a.Rec", "a"), _10=bad_member(12)))
+    many_19("the last two, a dotted name with a bad namespace", 19, 9, at(r(10, "a"), _8=m_reference("Fix", "a.Fix"), _9=m_fixed("a.Fix", None, "1 -")), "a")
+    many_19("the first and the last, a definition and a reference", 19, 8, at(r(9), _0=m_enum("Kind"), _8=m_reference("Kind", None, IN_TWO)))
+    many_19("bytes, and a decimal over bytes as the ninth", 19, 8, at(r(9), _2=m_primitive("bytes"), _8=m_decimal(4)))
+    many_19("an int as the fourth and the last, in an object", 19, 11, at(mixture(12), _3=m_primitive("int"), _7=m_reference("Kz"), _11=m_primitive("int", IN_TWO)))
+    many_19("two arrays, the first and the last", 19, 9, at(r(10), _0=m_array(), _9=m_array("string", IN_OBJECT)))
+    many_19("two maps, then 13 and 14", 19, 9, at(r(12), _8=m_map("R"), _9=m_map("R"), _10=bad_member(13), _11=bad_member(14)))
+    many_19("a union as the ninth", 19, 8, at(r(9), _8=m_union()))
+    many_19("a union in nested types as the tenth, then 17 and 18", 19, 9, at(r(12), _9=m_union(IN_TWO), _10=bad_member(17), _11=bad_member(18)))
+    many_19("the first and the last", 19, 129, at(r(130), _129=r(1, names=names_of(130, 3))[0]))
+    many_19("two clashes, the earlier later one counts", 19, 100, at(in_objects(130), _100=in_objects(130)[3], _120=in_objects(130)[1]))
+    many_19("two clashes, turned round", 19, 9, at(r(12), _10=r(12)[0], _9=m_fixed(r(12)[1].key)))
+    many_19("the last two", 19, 299, at(r(300), _299=r(300)[298]))
+    many_19("the eighth and the ninth, with an escape, then two more", 19, 8, at(r(300, names=TURNED[20:]), _8=m_reference(spelt(TURNED[27], "all", False)), _9=m_reference(TURNED[20]), _10=m_reference(TURNED[21])))
+    many_19("two in the middle, then 27 and 28", 19, 151, at(r(300), _151=r(300)[150], _152=bad_member(27), _299=bad_member(28)))
+    many_19("two clashes, a name before a kind", 19, 25, at(mixture(40), _25=like(mixture(40)[2]), _30=m_primitive("int")))
+
+
+clashes()
+
+# 3: other refusals before the clash. The member at fault has the name of an earlier one where it can have one.
+EARLY = {7: '{"type":"fixed","size":1,"name":"Bad","namespace":"n.@1"}', 8: '{"type":"record","name":@"int","namespace":"a","fields":[]}', 9: '{"type":"enum","name":@"~256~","symbols":[]}',
+         17: '@{"type":"fixed","name":"Bad"}', 18: '{"type":"fixed","name":"Bad","size":@"1"}'}
+for i, number in enumerate(BAD):
+    members = references(9 + i % 4)
+    members[3 * i % 7] = m_reference("a.int" if number == 8 else "Bad" if number in EARLY else "Other")
+    members[-1] = members[i % 7]
+    members[7] = Member("Bad" if number in EARLY else None, [], EARLY[number], number, True) if number in EARLY else bad_member(number)
+    many_19("%d as the eighth before a clash with the last" % number, number, 7, members, "" if i % 2 else None)
+# inside the later member itself
+for i, (number, key, text) in enumerate(((10, "Abc", '@{"type":"record","name":"Abc"}'), (12, "Abc", '@{"type":"enum","symbols":"A","name":"Abc"}'), (27, "kind: array", '@{"type":"array","values":"int"}'),
+                                         (28, "kind: map", '@{"type":"map","items":"int"}'), (7, "Abc", '{"aliases":["Q","@1"],"type":"fixed","name":"Abc","size":1}'))):
+    first = m_array() if number == 27 else m_map() if number == 28 else m_reference("Abc")
+    members = at(references(9 + i % 3), _1=first) + [Member(key, [], text, number)]
+    many_19("the last would be %d, the second is its like" % number, 19, 9 + i % 3, members)
+# full names over 255 bytes
+OVER = long_name(55)
+TOO_LONG = Member(full_of(OVER, LONG_SPACE), [], '@"%s"' % OVER, 9, True)
+many_19("a name of 256 bytes by its namespace", 9, 9, at(references(11, LONG_SPACE), _9=TOO_LONG), LONG_SPACE)
+many_19("two equal names of 256 bytes", 9, 8, at(references(12, LONG_SPACE), _8=TOO_LONG, _10=TOO_LONG), LONG_SPACE)
+many_19("a name of 256 bytes behind a clash, one of 255 before it", 19, 9,
+        at(references(11, LONG_SPACE), _0=m_reference(OVER[1:], full_of(OVER[1:], LONG_SPACE)), _9=like(references(11, LONG_SPACE)[8]), _10=TOO_LONG), LONG_SPACE)
+
+# 4: unions in each other's records
+
+
+def nested_unions():
+    outer, inner = references(10, "a"), references(10, "b")
+    holding = m_holding("b.S", "b.S", inner)
+    many_19("the tenth holds a union of the same names in another namespace", 0, None, at(outer, _9=holding), "a")
+    many_19("the first holds two unions of the same full names", 0, None, [m_holding("S", "a.S", outer, in_objects(12, "a"))] + outer[1:] + [m_reference("T", "a.T")], "a")
+    many_19("a clash behind an inner union of the same names", 19, 11, outer[:5] + [holding] + outer[5:] + [m_reference("b.S")], "a")
+    many_19("a clash in an inner union before one outside", 19, 9, outer[:9] + [m_holding("b.S", "b.S", at(inner, _9=m_reference("b." + names_of(10, 3)[4]))), outer[0]], "a")
+    many_19("a clash outside before one in an inner union", 19, 11, [m_reference("b.S")] + outer + [m_holding("b.S", "b.S", at(inner, _9=inner[0]))], "a")
+    many_19("as items, its last member holds two", 0, None, references(9) + [m_holding("b.S", "b.S", inner, references(11, "b"))], around="items")
+    many_19("as values, a clash of the first and the last", 19, 10, at(mixture(11), _10=like(mixture(11)[0], "all")), around="values")
+    rows, text = in_record("a", *[union_of(u)[:2] for u in (references(9, "a"), in_objects(10, "a"), references(11, "a"), references(12, "a"))])
+    many("four unions of the same names in one record", 0, rows, text)
+
+
+nested_unions()
+
+
+# 5: enums of many symbols
+
+def enum_of(symbols, default=None, size=None, name="E"):
+    """Rows, text and number. A symbol is its spelling, a pair of 7 and its spelling with @ at the fault, or a pair of 13 and the
+    value. The default is a value."""
+    number, texts, seen = 13 if any(isinstance(s, tuple) and s[0] == 13 for s in symbols) else 0, [], []
+    found = False
+    for s in symbols:
+        kind, s = s if isinstance(s, tuple) else (0, s)
+        text = s.replace("@", "") if kind == 13 else '^"%s"' % s.replace("@", "")
+        if not found:
+            if number == 13:
+                found, text = kind == 13, ("@" if kind == 13 else "") + text
+            else:
+                fault = 7 if kind else 9 if size_in_bytes(s) > 255 else 14 if undone(s) in seen else 0
+                if fault:
+                    number, found, text = fault, True, '"%s"' % s if fault == 7 else "@" + text
+                seen.append(undone(s.replace("@", "")))
+        texts.append(text)
+    if default is not None and not number:
+        number = 15 if default[0] != '"' else 16 if json.loads(default) not in seen else 0
+    rows = [(0, "enum " + name)] + [(1, "symbol " + undone(s)) for s in symbols if isinstance(s, str)]
+    given = "" if default is None else ',"default":%s%s' % ("@" if number in (15, 16) else "", default)
+    return rows, '{"type":"enum","name":^"%s","symbols":%s%s}' % (name, bracketed(texts, size), given), number
+
+
+def many_14(label, expected, symbols, default=None, size=None):
+    rows, text, number = enum_of(symbols, default, size)
+    assert number == expected, (label, number, expected)
+    many("%d symbols, %s" % (len(symbols), label), number, rows, text)
+
+
+def enums_of_many():
+    turned, short = TURNED[:], names_of(400, 2)
+    many_14("all new, the ninth the default", 0, turned[:9], '"%s"' % turned[8])
+    many_14("all new, the default with escapes", 0, turned[:130], '"%s"' % spelt(turned[129], "all", True))
+    many_14("the first again as the last", 14, turned[:12] + turned[:1])
+    many_14("the eighth again as the ninth", 14, turned[:8] + turned[7:12])
+    many_14("the last two", 14, short + short[-1:])
+    many_14("the fourth again as the 31st, with an escape", 14, turned[:30] + [spelt(turned[3], "first", True)] + turned[30:40])
+    many_14("two twice, the first with escapes", 14, [spelt(turned[0], "all", False)] + turned[1:20] + turned[5:6] + turned[:1])
+    many_14("a bad one before the second of two", 7, turned[:9] + [(7, "a@-b")] + turned[:1])
+    many_14("a bad one behind the second of two", 14, turned[:9] + turned[8:9] + [(7, "a@.b")])
+    many_14("one of 256 bytes before the second of two", 9, turned[:9] + ["~256~"] + turned[:1])
+    many_14("one of 256 bytes twice behind the second of two", 14, turned[:10] + turned[4:5] + ["~256~", "~256~"])
+    many_14("no string as the last, behind a pair and a bad one", 13, turned[:9] + turned[:1] + [(7, "@"), "~256~", (13, "null")])
+    many_14("two no strings in the middle", 13, short[:60] + [(13, '["A"]')] + short[:9] + [(13, "5")])
+    many_14("a default no string", 15, turned[:40], '["%s"]' % turned[0])
+    many_14("a default that is a prefix of all", 16, turned[:12], '"Q"')
+    many_14("a default in another order of letters", 16, turned[:119], '"%s"' % turned[119])
+    many_14("a bad default behind a pair", 14, turned[:11] + turned[9:10], "5")
+
+
+enums_of_many()
+
+
+# 6: records of many fields
+
+def record_of(fields, size=None, called="R"):
+    """Rows, text and number. A field is its name, a list of its name and aliases, a pair of its name and its type (with rows, text
+    and number), or a value in ( ) that is no object. ! stands where 11 may come, behind all types."""
+    taken, met, in_types, texts, rows = [], None, 0, [], [(0, "record " + called)]
+    for f in fields:
+        if isinstance(f, str) and f[0] == "(":
+            texts.append(f[1:-1])
+            continue
+        (name, *others), (type_rows, type_text, number) = ([f[0]], f[1]) if isinstance(f, tuple) else (f if isinstance(f, list) else [f], ([(0, "union")], "^[]", 0))
+        if undone(name) in taken and met is None:
+            met = len(texts)
+        in_types = in_types or number
+        taken += [undone(n) for n in [name] + others]
+        rows += [(1, "field " + undone(name))] + [(2, "field-alias " + undone(a)) for a in others] + below(type_rows, 2)
+        texts.append('{"name":!^"%s"%s,"type":%s}' % (name, ',"aliases":[%s]' % ",".join('^"%s"' % a for a in others) if others else "", type_text))
+    texts = [t.replace("!", "@" if i == met and not in_types else "", 1) for i, t in enumerate(texts)]
+    return rows, '{"type":"record","name":^"%s","fields":%s}' % (called, bracketed(texts, size)), in_types or (0 if met is None else 11)
+
+
+def many_11(label, expected, fields, size=None):
+    rows, text, number = record_of(fields, size)
+    assert number == expected, (label, number, expected)
+    many("%d fields, %s" % (len(fields), label), number, rows, text)
+
+
+def records_of_many():
+    turned, short = TURNED[:], names_of(200, 2)
+    many_11("each with aliases, elements that are no objects between", 0, [x for i in range(9) for x in ([turned[i], turned[i + 20], turned[i + 40]], ("(5)", '("f")', "(null)", "([])", '([{"name":"%s"}])' % turned[0])[i % 5])])
+    many_11("aliases equal to earlier names and to each other", 0, [turned[0]] + [[turned[i], turned[0], turned[i], turned[i - 1], "X", "X", "X"] for i in range(1, 12)])
+    many_11("the first again as the last", 11, turned[:9] + turned[:1])
+    many_11("the eighth's alias again as the ninth", 11, turned[:7] + [[turned[7], turned[50], turned[51]], turned[51]] + turned[8:12])
+    many_11("the first's alias again as the last", 11, [[short[0], short[1], short[199]]] + short[2:100] + [short[199]])
+    many_11("an alias equal to an earlier name, then one that is met", 11, turned[:10] + [[turned[10], turned[0], turned[1]], [turned[11], turned[12]], "(0)", turned[12], turned[0]])
+    many_11("two names met, the earlier counts, with an escape", 11, [[turned[0], spelt(turned[31], "last", True)]] + turned[1:30] + [turned[31], turned[1]])
+    many_11("two names met before a type that is refused", 4, turned[:9] + turned[:2] + [(turned[20], ([], "@7", 4))])
+    many_11("two names met before a union that is refused", 19, turned[:9] + turned[:1] + [(turned[20], union_of(references(9) + references(1, names=names_of(9, 3)))), "(1)"])
+
+
+records_of_many()
+
+# 7: arrays of exact sizes, from [ to behind ]
+
+
+def union_members(n, size, again=False):
+    """References whose names fill the size, but for some white space."""
+    names = names_of(n, (size - 1 - 3 * n) / n)
+    return references(n, names=names[:-1] + [names[0]] if again else names)
+
+
+def symbols_to_fill(n, size, again=False):
+    names = names_of(n, (size - 1 - 3 * n) / n)
+    return names[:-1] + [names[0]] if again else names
+
+
+def fields_to_fill(n, size, again=False):
+    """Every tenth has an alias, that of an earlier name or its own."""
+    names = names_of(n, (size - 1 - 22 * n - 40 * (n // 10)) / n if n > 9 else 1)
+    if again:
+        names[-1] = names[0]
+    return [[s, "zzz" if i % 20 else names[1]] if i % 10 == 9 and i < n - 1 else s for i, s in enumerate(names)]
+
+
+def of_size(kind, size, n):
+    """Rows and text of a union, an enum or a record whose array has that size, all new."""
+    if kind == 0:
+        return union_of(union_members(n, size), size)[:2]
+    if kind == 1:
+        return enum_of(symbols_to_fill(n, size), None, size, "E%d" % size)[:2]
+    return record_of(fields_to_fill(n, size), size, "R%d" % size)[:2]
+
+
+def sizes():
+    new, again = "an array of %d bytes, all new", "an array of %d bytes, the first again as the last"
+    # around each size: the numbers of members, symbols and fields
+    counts = {48: (11, 10, 2), 512: (40, 60, 12), 1024: (130, 120, 30), 4096: (300, 250, 100), 8192: (300, 400, 200)}
+    for middle, (members, symbols, fields) in counts.items():
+        three = (middle - 1, middle, middle + 1)
+        if middle <= 1024:
+            # the ones that are all new stand together, for they are short
+            all_new = [[of_size(kind, size, counts[middle][kind]) for size in three] for kind in range(3)]
+            for label, types in (("three kinds", sum(all_new, [])),) if middle == 48 else zip(("references", "symbols", "fields"), all_new):
+                many("arrays of %d, %d and %d bytes, all new, of %s" % (three + (label,)), 0, *in_record("", *types))
+        else:
+            many_19(new % three[0], 0, None, union_members(members, three[0]), size=three[0])
+            many_14(new % three[1], 0, symbols_to_fill(symbols, three[1]), size=three[1])
+            many_11(new % three[2], 0, fields_to_fill(fields, three[2]), size=three[2])
+        for size in three if middle <= 1024 else three[1:] if middle == 4096 else three[1:2]:
+            many_19(again % size, 19, members - 1, union_members(members, size, True), size=size)
+        for size in three if middle <= 1024 else three[2:]:
+            many_14(again % size, 14, symbols_to_fill(symbols, size, True), size=size)
+        for size in three if middle <= 1024 else three[:1]:
+            many_11(again % size, 11, fields_to_fill(fields, size, True), size=size)
+
+
+sizes()
+assert sum(len(c.text) for c in MANY) <= 160000, sum(len(c.text) for c in MANY)
+
+
 def all_cases():
-    return CASES + NEAR + FIT
+    return CASES + NEAR + FIT + MANY

@@ -7,6 +7,7 @@ use form::first_alias;
 use form::is_object;
 use form::must;
 use seen::enter;
+use seen::forget;
 use view::Spot;
 use view::first_element;
 use view::mark;
@@ -169,24 +170,11 @@ fn all_names(text: &[u8], ends: &[u16], array: usize, table: &mut [u64]) -> Chec
     }
 }
 
-// 11, for the `fields` at a place. A short array needs a small table.
-pub fn field_names(text: &[u8], ends: &[u16], array: usize) -> Check
-    requires { ⌜ Known (now text) (now ends) ⌝ }
+// 11, for the `fields` at a place. What the table holds is forgotten.
+pub fn field_names(text: &[u8], ends: &[u16], array: usize, table: &mut [u64]) -> Check
+    requires { ⌜ Known (now text) (now ends) × Sized (now table) ⌝ }
     ensures { λ r. ⌜ r ≡ fieldNamesCheck (now (text .entry)) [] (fieldsIn (now (text .entry)) array) ⌝ }
 {
-    let long = bytes_at(text, ends, array);
-    if long < 1024 {
-        let mut few: [u64; 256] = [0; 256];
-        return all_names(text, ends, array, &mut few);
-    }
-    if long < 4096 {
-        let mut some: [u64; 1024] = [0; 1024];
-        return all_names(text, ends, array, &mut some);
-    }
-    if long < 8192 {
-        let mut more: [u64; 2048] = [0; 2048];
-        return all_names(text, ends, array, &mut more);
-    }
-    let mut many: [u64; 8192] = [0; 8192];
-    all_names(text, ends, array, &mut many)
+    let n = forget(table, bytes_at(text, ends, array));
+    all_names(text, ends, array, &mut table[0..n])
 }

@@ -7,6 +7,7 @@ use super::unions::is_new_name;
 use super::unions::told_apart;
 use row::Kind;
 use seen::enter;
+use seen::forget;
 use view::Spot;
 use view::first_element;
 use view::mark_of;
@@ -133,15 +134,16 @@ fn is_small(text: &[u8], ends: &[u16], array: usize) -> bool
     false
 }
 
-// A place before which all members of the union are new. Of a small union none is looked at.
+// A place before which all members of the union are new. Of a small union none is looked at. What the table holds is forgotten.
 pub fn surely_new(
     text: &[u8],
     ends: &[u16],
     namespace: &[u8],
     array: usize,
+    table: &mut [u64],
     word: &mut [u8; 32768],
 ) -> usize
-    requires { ⌜ (length (now text) ≤ 32768) × Known (now text) (now ends) ⌝ }
+    requires { ⌜ (length (now text) ≤ 32768) × Known (now text) (now ends) × Sized (now table) ⌝ }
     ensures { λ r. ⌜ Sure (now (text .entry)) (now (namespace .entry)) array r ⌝ }
 {
     let long = bytes_at(text, ends, array);
@@ -151,20 +153,8 @@ pub fn surely_new(
     if is_small(text, ends, array) {
         return 0;
     }
-    if long < 1024 {
-        let mut few: [u64; 256] = [0; 256];
-        return new_until(text, ends, namespace, array, &mut few, word);
-    }
-    if long < 4096 {
-        let mut some: [u64; 1024] = [0; 1024];
-        return new_until(text, ends, namespace, array, &mut some, word);
-    }
-    if long < 8192 {
-        let mut more: [u64; 2048] = [0; 2048];
-        return new_until(text, ends, namespace, array, &mut more, word);
-    }
-    let mut many: [u64; 8192] = [0; 8192];
-    new_until(text, ends, namespace, array, &mut many, word)
+    let n = forget(table, long);
+    new_until(text, ends, namespace, array, &mut table[0..n], word)
 }
 
 // How the member of a union stands that has all members before a place new: one of them as if it stood alone.

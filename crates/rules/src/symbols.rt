@@ -7,6 +7,7 @@ use form::is_text;
 use form::must;
 use form::simple_check;
 use seen::enter;
+use seen::forget;
 use view::Spot;
 use view::first_element;
 use view::mark;
@@ -125,36 +126,35 @@ fn each_symbol(
     }
 }
 
-// 7, 9, 14 for each. A short array needs a small table.
-fn each_new(text: &[u8], ends: &[u16], array: usize, word: &mut [u8; 32768]) -> Check
-    requires { ⌜ (length (now text) ≤ 32768) × Known (now text) (now ends) ⌝ }
+// 7, 9, 14 for each. What the table holds is forgotten.
+fn each_new(
+    text: &[u8],
+    ends: &[u16],
+    array: usize,
+    table: &mut [u64],
+    word: &mut [u8; 32768],
+) -> Check
+    requires { ⌜ (length (now text) ≤ 32768) × Known (now text) (now ends) × Sized (now table) ⌝ }
     ensures { λ r. ⌜ r ≡ symbolsNew (now (text .entry)) [] (elements (now (text .entry)) array) ⌝ }
 {
-    let long = bytes_at(text, ends, array);
-    if long < 1024 {
-        let mut few: [u64; 256] = [0; 256];
-        return each_symbol(text, ends, array, &mut few, word);
-    }
-    if long < 4096 {
-        let mut some: [u64; 1024] = [0; 1024];
-        return each_symbol(text, ends, array, &mut some, word);
-    }
-    if long < 8192 {
-        let mut more: [u64; 2048] = [0; 2048];
-        return each_symbol(text, ends, array, &mut more, word);
-    }
-    let mut many: [u64; 8192] = [0; 8192];
-    each_symbol(text, ends, array, &mut many, word)
+    let n = forget(table, bytes_at(text, ends, array));
+    each_symbol(text, ends, array, &mut table[0..n], word)
 }
 
 // The `symbols` at a place: 13 for all, then 7, 9, 14 for each.
-pub fn symbols_check(text: &[u8], ends: &[u16], array: usize, word: &mut [u8; 32768]) -> Check
-    requires { ⌜ (length (now text) ≤ 32768) × Known (now text) (now ends) ⌝ }
+pub fn symbols_check(
+    text: &[u8],
+    ends: &[u16],
+    array: usize,
+    table: &mut [u64],
+    word: &mut [u8; 32768],
+) -> Check
+    requires { ⌜ (length (now text) ≤ 32768) × Known (now text) (now ends) × Sized (now table) ⌝ }
     ensures { λ r. ⌜ r ≡ symbolsCheck (now (text .entry)) (elements (now (text .entry)) array) ⌝ }
 {
     match all_strings(text, ends, array) {
         Check::Bad(f) => Check::Bad(f),
-        Check::Fine => each_new(text, ends, array, word),
+        Check::Fine => each_new(text, ends, array, table, word),
     }
 }
 

@@ -33,6 +33,7 @@ ghost use lib.ListN.{length};
 ghost use Rattle.schema.specs.Schema.{enumRows, fixedRows};
 ghost use Rattle.schema.specs.Did.{Did, Titled, around, headed, headRows, nameIn, symbolsRows};
 ghost use Rattle.view.specs.Known.{Known};
+ghost use Rattle.seen.specs.Seen.{Sized};
 
 // 19, the row with the full name, the aliases, which see the full name's namespace.
 fn put_definition(
@@ -134,8 +135,9 @@ fn put_checked_symbols(
     draft: &mut [u8],
     counts: Counts,
     word: &mut [u8; 32768],
+    table: &mut [u64],
 ) -> Walked
-    requires { ⌜ (length (now text) ≤ 32768) × Known (now text) (now ends) ⌝ }
+    requires { ⌜ (length (now text) ≤ 32768) × Known (now text) (now ends) × Sized (now table) ⌝ }
     ensures { λ r. ⌜ Did (now (draft .entry)) counts (now (draft .exit)) r (symbolsRows (now (text .entry)) depth at members) ⌝ }
 {
     let symbols = members.symbols;
@@ -145,7 +147,7 @@ fn put_checked_symbols(
             at,
         });
     };
-    if let Check::Bad(f) = symbols_check(text, ends, v, word) {
+    if let Check::Bad(f) = symbols_check(text, ends, v, table, word) {
         return Walked::Bad(f);
     }
     let default = members.default;
@@ -166,8 +168,9 @@ pub(crate) fn put_enum(
     draft: &mut [u8],
     counts: Counts,
     word: &mut [u8; 32768],
+    table: &mut [u64],
 ) -> Walked
-    requires { ⌜ (length (now text) ≤ 32768) × (depth < 65535) × Known (now text) (now ends) ⌝ }
+    requires { ⌜ (length (now text) ≤ 32768) × (depth < 65535) × Known (now text) (now ends) × Sized (now table) ⌝ }
     ensures { λ r. ⌜ Did (now (draft .entry)) counts (now (draft .exit)) r (enumRows (now (text .entry)) (around (now (namespace .entry)) standing) depth at members) ⌝ }
 {
     let mut full: [u8; 255] = [0; 255];
@@ -194,7 +197,7 @@ pub(crate) fn put_enum(
     ) {
         Defined::Bad(f) => Walked::Bad(f),
         Defined::As(_, next) => {
-            put_checked_symbols(text, ends, depth + 1, at, members, draft, next, word)
+            put_checked_symbols(text, ends, depth + 1, at, members, draft, next, word, table)
         }
     }
 }

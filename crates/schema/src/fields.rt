@@ -21,6 +21,7 @@ ghost use Rattle.form.specs.Spots.{fieldsIn};
 ghost use Rattle.schema.specs.Out.{read, after};
 ghost use Rattle.schema.specs.Did.{Did, fieldHead};
 ghost use Rattle.view.specs.Known.{Known};
+ghost use Rattle.seen.specs.Seen.{Sized};
 
 // The field at `at` with these members: its name, its row, its aliases.
 pub(crate) fn put_field_head(
@@ -53,11 +54,17 @@ pub(crate) fn put_field_head(
 }
 
 // 11, for the `fields` at a place, whose rows are counted.
-pub(crate) fn named_apart(text: &[u8], ends: &[u16], array: usize, counts: Counts) -> Walked
-    requires { ⌜ Known (now text) (now ends) ⌝ }
+pub(crate) fn named_apart(
+    text: &[u8],
+    ends: &[u16],
+    array: usize,
+    counts: Counts,
+    table: &mut [u64],
+) -> Walked
+    requires { ⌜ Known (now text) (now ends) × Sized (now table) ⌝ }
     ensures { λ r. ⌜ ((m : List ℕ) → Did m counts m r (after (fieldNamesCheck (now (text .entry)) [] (fieldsIn (now (text .entry)) array)) (read []))) ⌝ }
 {
-    match field_names(text, ends, array) {
+    match field_names(text, ends, array, table) {
         Check::Bad(f) => Walked::Bad(f),
         Check::Fine => Walked::Read(counts),
     }

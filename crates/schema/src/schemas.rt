@@ -35,6 +35,7 @@ ghost use Rattle.schema.specs.Out.{refused};
 ghost use Rattle.schema.specs.Schema.{schemaOf, within, partRows, unionRows, recordRows, fieldsRows};
 ghost use Rattle.schema.specs.Did.{Did, Asks, around, elementRows};
 ghost use Rattle.view.specs.Known.{Known};
+ghost use Rattle.seen.specs.Seen.{Sized};
 
 // The schema at `at`, in which `left` may nest.
 pub(crate) fn put_schema(
@@ -48,8 +49,9 @@ pub(crate) fn put_schema(
     draft: &mut [u8],
     counts: Counts,
     word: &mut [u8; 32768],
+    table: &mut [u64],
 ) -> Walked
-    requires { ⌜ (Asks (now text) depth left) × Known (now text) (now ends) ⌝ }
+    requires { ⌜ (Asks (now text) depth left) × Known (now text) (now ends) × Sized (now table) ⌝ }
     ensures { λ r. ⌜ Did (now (draft .entry)) counts (now (draft .exit)) r (schemaOf left (now (text .entry)) (around (now (namespace .entry)) standing) depth at) ⌝ }
 {
     if left == 0 {
@@ -94,6 +96,7 @@ pub(crate) fn put_schema(
             draft,
             counts,
             word,
+            table,
         ),
         Form::MapOf(p) => put_part(
             text,
@@ -109,6 +112,7 @@ pub(crate) fn put_schema(
             draft,
             counts,
             word,
+            table,
         ),
         Form::UnionOf(p) => put_union(
             text,
@@ -121,6 +125,7 @@ pub(crate) fn put_schema(
             draft,
             counts,
             word,
+            table,
         ),
         Form::RecordOf(p) => put_record(
             text,
@@ -135,6 +140,7 @@ pub(crate) fn put_schema(
             members,
             depth,
             less,
+            table,
         ),
         Form::EnumOf(p) => put_enum(
             text,
@@ -147,6 +153,7 @@ pub(crate) fn put_schema(
             draft,
             counts,
             word,
+            table,
         ),
         Form::FixedOf(p) => put_fixed(
             text,
@@ -178,8 +185,9 @@ fn put_part(
     draft: &mut [u8],
     counts: Counts,
     word: &mut [u8; 32768],
+    table: &mut [u64],
 ) -> Walked
-    requires { ⌜ Asks (now text) (depth + 1) left × (at < 65536) × Known (now text) (now ends) ⌝ }
+    requires { ⌜ Asks (now text) (depth + 1) left × (at < 65536) × Known (now text) (now ends) × Sized (now table) ⌝ }
     ensures { λ r. ⌜ Did (now (draft .entry)) counts (now (draft .exit)) r (partRows (schemaOf left (now (text .entry))) (now (text .entry)) (around (now (namespace .entry)) standing) kind depth at part (refused (fault missing at))) ⌝ }
 {
     if let Check::Bad(f) = new_kind(text, ends, standing, kind) {
@@ -200,6 +208,7 @@ fn put_part(
         draft,
         next,
         word,
+        table,
     )
 }
 
@@ -215,14 +224,15 @@ fn put_union(
     draft: &mut [u8],
     counts: Counts,
     word: &mut [u8; 32768],
+    table: &mut [u64],
 ) -> Walked
-    requires { ⌜ Asks (now text) (depth + 1) left × (at < 65536) × Known (now text) (now ends) ⌝ }
+    requires { ⌜ Asks (now text) (depth + 1) left × (at < 65536) × Known (now text) (now ends) × Sized (now table) ⌝ }
     ensures { λ r. ⌜ Did (now (draft .entry)) counts (now (draft .exit)) r (unionRows (schemaOf left (now (text .entry))) (now (text .entry)) (around (now (namespace .entry)) standing) depth at) ⌝ }
 {
     if let Check::Bad(f) = new_kind(text, ends, standing, Kind::Union) {
         return Walked::Bad(f);
     }
-    let sure = surely_new(text, ends, namespace, at, word);
+    let sure = surely_new(text, ends, namespace, at, table, word);
     let mut sum = put(draft, counts, Kind::Union, depth, at, b"");
     let mut spot = first_element(text, at);
     loop {
@@ -241,6 +251,7 @@ fn put_union(
             draft,
             sum,
             word,
+            table,
         ) {
             Walked::Bad(f) => return Walked::Bad(f),
             Walked::Read(next) => {
@@ -265,8 +276,9 @@ fn put_record(
     members: Members,
     depth: u16,
     left: usize,
+    table: &mut [u64],
 ) -> Walked
-    requires { ⌜ (Asks (now text) (depth + 2) left) × Known (now text) (now ends) ⌝ }
+    requires { ⌜ (Asks (now text) (depth + 2) left) × Known (now text) (now ends) × Sized (now table) ⌝ }
     ensures { λ r. ⌜ Did (now (draft .entry)) counts (now (draft .exit)) r (recordRows (schemaOf left (now (text .entry))) (now (text .entry)) (around (now (namespace .entry)) standing) depth at members) ⌝ }
 {
     let none = Note {
@@ -301,7 +313,18 @@ fn put_record(
             };
             let all = &full[..];
             let own = namespace_part(&all[0..n]);
-            put_fields(text, ends, own, v, depth + 1, left, draft, next, word)
+            put_fields(
+                text,
+                ends,
+                own,
+                v,
+                depth + 1,
+                left,
+                draft,
+                next,
+                word,
+                table,
+            )
         }
     }
 }
@@ -317,17 +340,29 @@ fn put_fields(
     draft: &mut [u8],
     counts: Counts,
     word: &mut [u8; 32768],
+    table: &mut [u64],
 ) -> Walked
-    requires { ⌜ (Asks (now text) (depth + 1) left) × Known (now text) (now ends) ⌝ }
+    requires { ⌜ (Asks (now text) (depth + 1) left) × Known (now text) (now ends) × Sized (now table) ⌝ }
     ensures { λ r. ⌜ Did (now (draft .entry)) counts (now (draft .exit)) r (fieldsRows (schemaOf left (now (text .entry)) (within (now (namespace .entry)))) (now (text .entry)) depth (fieldsIn (now (text .entry)) array)) ⌝ }
 {
     let mut sum = counts;
     let mut spot = first_element(text, array);
     loop {
         let Spot::At(p) = spot else {
-            return named_apart(text, ends, array, sum);
+            return named_apart(text, ends, array, sum, table);
         };
-        match put_field(text, ends, namespace, p, depth, left, draft, sum, word) {
+        match put_field(
+            text,
+            ends,
+            namespace,
+            p,
+            depth,
+            left,
+            draft,
+            sum,
+            word,
+            table,
+        ) {
             Walked::Bad(f) => return Walked::Bad(f),
             Walked::Read(next) => {
                 sum = next;
@@ -348,8 +383,9 @@ fn put_field(
     draft: &mut [u8],
     counts: Counts,
     word: &mut [u8; 32768],
+    table: &mut [u64],
 ) -> Walked
-    requires { ⌜ (Asks (now text) (depth + 1) left) × Known (now text) (now ends) ⌝ }
+    requires { ⌜ (Asks (now text) (depth + 1) left) × Known (now text) (now ends) × Sized (now table) ⌝ }
     ensures { λ r. ⌜ Did (now (draft .entry)) counts (now (draft .exit)) r (elementRows (schemaOf left (now (text .entry)) (within (now (namespace .entry)))) (now (text .entry)) depth at) ⌝ }
 {
     if !is_object(text, at) {
@@ -377,6 +413,7 @@ fn put_field(
                 draft,
                 next,
                 word,
+                table,
             )
         }
     }

@@ -1,7 +1,8 @@
 // A table of the marks of strings, in lent memory of any size, zeros at first. A string that is not marked is surely new; one that is has to be
 // looked for.
 ghost use mathlib.Core.Path.{_≡_};
-ghost use Prim.Native.Nat.{_<_};
+ghost use Prim.Native.Nat.{_<_, _≤_};
+ghost use lib.ListN.{length};
 ghost use Rattle.seen.specs.Seen.{Sized, placeIn, foundIn, isMarked, entered};
 
 // Where a mark is looked for: it is there, or an empty place is.
@@ -60,4 +61,46 @@ pub fn enter(table: &mut [u64], mark: u64) -> bool
             false
         }
     }
+}
+
+// How many places the names of so many bytes of text need.
+fn needed(bytes: usize) -> usize
+    ensures { λ r. ⌜ 0 < r ⌝ }
+{
+    if bytes < 1024 {
+        return 256;
+    }
+    if bytes < 4096 {
+        return 1024;
+    }
+    if bytes < 8192 {
+        return 2048;
+    }
+    8192
+}
+
+// The same, but no more than there are.
+fn at_most(bytes: usize, places: usize) -> usize
+    requires { ⌜ 0 < places ⌝ }
+    ensures { λ r. ⌜ (0 < r) × (r ≤ places) ⌝ }
+{
+    let n = needed(bytes);
+    if places < n {
+        return places;
+    }
+    n
+}
+
+// Empties the first places of the table, as many as the names of so many bytes of text need, or all.
+pub fn forget(table: &mut [u64], bytes: usize) -> usize
+    requires { ⌜ Sized (now table) ⌝ }
+    ensures { λ r. ⌜ (0 < r) × (r ≤ length (now (table .exit))) × (length (now (table .exit)) ≡ length (now (table .entry))) ⌝ }
+{
+    let n = at_most(bytes, table.len());
+    let mut i: usize = 0;
+    while i < n {
+        table[i] = 0;
+        i += 1;
+    }
+    n
 }

@@ -21,38 +21,53 @@ enum-told c = search needs
 slice-aggregate-walk : tie.Need-slice-aggregate-walk
 slice-aggregate-walk c = search needs
 
+slice-aggregate-walk-2 : tie.Need-slice-aggregate-walk-2
+slice-aggregate-walk-2 c = search needs
+
 walk-requires : tie.Need-walk-requires
-walk-requires c κs = (scanned-short _ (c .before .before .before .before .before .scan .ensures) (c .before .before .before .enum-told .given .1), known-none _ 2048)
+walk-requires c κs =
+    (scanned-short _ (c .before .before .before .before .before .before .scan .ensures) (c .before .before .before .before .enum-told .given .1), known-none _ 2048, search needs)
 
 same-length : tie.Need-same-length
 same-length c = search needs
 
 returns-2 : tie.Need-returns-2
-returns-2 c = declared-rows _ (c .before .before .before .before .before .before .before .before .before .scan .ensures) (c .before .before .before .before .before .before .before .enum-told .given .1) (c .before .before .before .walk .ensures)
+returns-2 c =
+    declared-rows _ (c .before .before .before .before .before .before .before .before .before .before .before .scan .ensures) (c .before .before .before .before .before .before .before .before .before .enum-told .given .1) (c .before .before .before .before .walk .ensures)
 
-slice-aggregate-walk-2 : tie.Need-slice-aggregate-walk-2
-slice-aggregate-walk-2 c = search needs
+slice-aggregate-walk-3 : tie.Need-slice-aggregate-walk-3
+slice-aggregate-walk-3 c = search needs
+
+slice-aggregate-walk-4 : tie.Need-slice-aggregate-walk-4
+slice-aggregate-walk-4 c = search needs
 
 walk-requires-2 : tie.Need-walk-requires-2
-walk-requires-2 c κs = (scanned-short _ (c .before .before .before .before .before .before .scan .ensures) (c .before .before .before .before .enum-told .given .1), known-none _ 8192)
+walk-requires-2 c κs =
+    (scanned-short _ (c .before .before .before .before .before .before .before .scan .ensures) (c .before .before .before .before .before .enum-told .given .1), known-none _ 8192, search needs)
 
 same-length-2 : tie.Need-same-length-2
 same-length-2 c = search needs
 
 returns-3 : tie.Need-returns-3
-returns-3 c = declared-rows _ (c .before .before .before .before .before .before .before .before .before .before .scan .ensures) (c .before .before .before .before .before .before .before .before .enum-told .given .1) (c .before .before .before .walk2 .ensures)
+returns-3 c =
+    declared-rows _ (c .before .before .before .before .before .before .before .before .before .before .before .before .scan .ensures) (c .before .before .before .before .before .before .before .before .before .before .enum-told .given .1) (c .before .before .before .before .walk2 .ensures)
 
-slice-aggregate-walk-3 : tie.Need-slice-aggregate-walk-3
-slice-aggregate-walk-3 c = search needs
+slice-aggregate-walk-5 : tie.Need-slice-aggregate-walk-5
+slice-aggregate-walk-5 c = search needs
+
+slice-aggregate-walk-6 : tie.Need-slice-aggregate-walk-6
+slice-aggregate-walk-6 c = search needs
 
 walk-requires-3 : tie.Need-walk-requires-3
-walk-requires-3 c κs = (scanned-short _ (c .before .before .before .before .before .before .scan .ensures) (c .before .before .before .before .enum-told .given .1), known-none _ 32768)
+walk-requires-3 c κs =
+    (scanned-short _ (c .before .before .before .before .before .before .before .scan .ensures) (c .before .before .before .before .before .enum-told .given .1), known-none _ 32768, search needs)
 
 same-length-3 : tie.Need-same-length-3
 same-length-3 c = search needs
 
 returns-4 : tie.Need-returns-4
-returns-4 c = declared-rows _ (c .before .before .before .before .before .before .before .before .before .before .scan .ensures) (c .before .before .before .before .before .before .before .before .enum-told .given .1) (c .before .before .before .walk3 .ensures)
+returns-4 c =
+    declared-rows _ (c .before .before .before .before .before .before .before .before .before .before .before .before .scan .ensures) (c .before .before .before .before .before .before .before .before .before .before .enum-told .given .1) (c .before .before .before .before .walk3 .ensures)
 
 pub declare-spec : {M : Type 1} → statement M
 declare-spec =
@@ -63,14 +78,17 @@ declare-spec =
     returns
     enum-told
     slice-aggregate-walk
+    slice-aggregate-walk-2
     walk-requires
     same-length
     returns-2
-    slice-aggregate-walk-2
+    slice-aggregate-walk-3
+    slice-aggregate-walk-4
     walk-requires-2
     same-length-2
     returns-3
-    slice-aggregate-walk-3
+    slice-aggregate-walk-5
+    slice-aggregate-walk-6
     walk-requires-3
     same-length-3
     returns-4)

@@ -29,8 +29,12 @@ same-length c = search needs
 same-length-2 : tie.Need-same-length-2
 same-length-2 c = search needs
 
+same-length-3 : tie.Need-same-length-3
+same-length-3 c = search needs
+
 returns : tie.Need-returns
-returns c = rows-walked _ (c .before .before .before .before .before .before .before .before .value-start .ensures) (c .before .before .before .before .before .before .before .none .ensures) (c .before .before .put-schema .ensures)
+returns c =
+    rows-walked _ (c .before .before .before .before .before .before .before .before .before .before .before .value-start .ensures) (c .before .before .before .before .before .before .before .before .before .before .none .ensures) (c .before .before .before .before .put-schema .ensures)
 
 pub walk-spec : {M : Type 1} → statement M
 walk-spec =
@@ -44,4 +48,5 @@ walk-spec =
     put-schema-requires
     same-length
     same-length-2
+    same-length-3
     returns)

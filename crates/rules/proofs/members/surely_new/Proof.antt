@@ -17,41 +17,26 @@ is-small-requires c κs = search needs
 returns-2 : tie.Need-returns-2
 returns-2 c = sure-none _ _ _
 
-slice-aggregate-new-until : tie.Need-slice-aggregate-new-until
-slice-aggregate-new-until c = search needs
+forget-requires : tie.Need-forget-requires
+forget-requires c κs = search needs
+
+sub-new-until : tie.Need-sub-new-until
+sub-new-until c = search needs
+
+part-new-until-start : tie.Need-part-new-until-start
+part-new-until-start c = search needs
+
+part-new-until-end : tie.Need-part-new-until-end
+part-new-until-end c = search needs
 
 new-until-requires : tie.Need-new-until-requires
 new-until-requires c κs = search needs
 
+same-length : tie.Need-same-length
+same-length c = search needs
+
 returns-3 : tie.Need-returns-3
 returns-3 c = search needs
-
-slice-aggregate-new-until-2 : tie.Need-slice-aggregate-new-until-2
-slice-aggregate-new-until-2 c = search needs
-
-new-until-requires-2 : tie.Need-new-until-requires-2
-new-until-requires-2 c κs = search needs
-
-returns-4 : tie.Need-returns-4
-returns-4 c = search needs
-
-slice-aggregate-new-until-3 : tie.Need-slice-aggregate-new-until-3
-slice-aggregate-new-until-3 c = search needs
-
-new-until-requires-3 : tie.Need-new-until-requires-3
-new-until-requires-3 c κs = search needs
-
-returns-5 : tie.Need-returns-5
-returns-5 c = search needs
-
-slice-aggregate-new-until-4 : tie.Need-slice-aggregate-new-until-4
-slice-aggregate-new-until-4 c = search needs
-
-new-until-requires-4 : tie.Need-new-until-requires-4
-new-until-requires-4 c κs = search needs
-
-returns-6 : tie.Need-returns-6
-returns-6 c = search needs
 
 pub surely-new-spec : {M : Type 1} → statement M
 surely-new-spec =
@@ -61,15 +46,10 @@ surely-new-spec =
     returns
     is-small-requires
     returns-2
-    slice-aggregate-new-until
+    forget-requires
+    sub-new-until
+    part-new-until-start
+    part-new-until-end
     new-until-requires
-    returns-3
-    slice-aggregate-new-until-2
-    new-until-requires-2
-    returns-4
-    slice-aggregate-new-until-3
-    new-until-requires-3
-    returns-5
-    slice-aggregate-new-until-4
-    new-until-requires-4
-    returns-6)
+    same-length
+    returns-3)

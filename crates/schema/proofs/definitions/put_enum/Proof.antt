@@ -32,9 +32,12 @@ returns c =
 same-length-2 : tie.Need-same-length-2
 same-length-2 c = search needs
 
+same-length-3 : tie.Need-same-length-3
+same-length-3 c = search needs
+
 returns-2 : tie.Need-returns-2
 returns-2 c =
-    did-eq (enum-then _ _ _ _ _) (did-then _ _ (did-titled _ (c .before .before .before .before .before .before .before .before .before .before .define .ensures) (c .before .before .before .before .before .before .next .given .1)) refl (c .before .before .put-checked-symbols .ensures))
+    did-eq (enum-then _ _ _ _ _) (did-then _ _ (did-titled _ (c .before .before .before .before .before .before .before .before .before .before .before .before .before .define .ensures) (c .before .before .before .before .before .before .before .before .before .next .given .1)) refl (c .before .before .before .before .put-checked-symbols .ensures))
 
 pub put-enum-spec : {M : Type 1} → statement M
 put-enum-spec =
@@ -48,4 +51,5 @@ put-enum-spec =
     same-length
     returns
     same-length-2
+    same-length-3
     returns-2)
