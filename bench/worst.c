@@ -106,82 +106,44 @@ static void short_names(unsigned n) {
             if (strcmp(name, "int")) keep(name);
 }
 
-/* The marks of crates/view and the table of crates/seen. */
-static uint8_t table[8192];
+/* The marks of crates/view: three bytes a step, and how many are left in the last. */
+static uint64_t step(uint64_t h, uint64_t w) { return h % 4294967296 * (2654435769 + w) + h / 4294967296 + w; }
 
 static uint64_t mark(const char *s) {
-    uint64_t h = 0;
-    for (; *s; s++) h = (h * 31 + (uint8_t)*s) % 4294967296;
-    return h;
+    uint64_t h = 1442695040888963407, w = 0, n = 0;
+    for (; *s; s++) {
+        w += (uint64_t)(uint8_t)*s << 8 * n;
+        if (++n == 3) {
+            h = step(h, w);
+            w = n = 0;
+        }
+    }
+    return step(h, w + 16777216 * n);
 }
 
-/* The three bytes of the table that a string has. */
-static void slots(const char *s, uint8_t *out[3]) {
-    uint64_t spread = mark(s) * 2654435761;
-    out[0] = table + spread / 524288 % 8192;
-    out[1] = table + spread / 4294967296 % 8192;
-    out[2] = table + spread / 64 % 8192;
-}
+/* Where the largest table of crates/seen looks for a string first. */
+static unsigned first_place(const char *s) { return (unsigned)(mark(s) / 4294967296 * 8192 / 4294967296); }
 
-static void enter(const char *s) {
-    uint8_t *at[3];
-    slots(s, at);
-    *at[0] = *at[1] = *at[2] = 1;
-}
-
-static bool is_marked(const char *s) {
-    uint8_t *at[3];
-    slots(s, at);
-    return *at[0] && *at[1] && *at[2];
-}
-
-/* Names of three letters: the first n as they come, then those alone that are marked before they are entered. */
-static void crowded_names(unsigned n) {
+/* Names of four letters, and then of five, that have one first place. */
+static void names_of_one_place(void) {
     char name[32];
     name_count = 0;
-    memset(table, 0, sizeof table);
-    for (unsigned i = 0; name_of(name, 3, i); i++)
-        if (name_count < n || is_marked(name)) {
-            enter(name);
-            keep(name);
-        }
+    for (unsigned n = 4; n <= 5; n++)
+        for (unsigned i = 0; name_count < 4400 && name_of(name, n, i); i++)
+            if (first_place(name) == 0) keep(name);
 }
 
 /* The same of strings of a control character and two others, which are no names; the character is written as an escape. */
-static void crowded_strings(unsigned n) {
-    static const char controls[] = "\t\n\r\b\f", letters[] = "tnrbf";
-    char bare[4] = "", written[8];
+static void strings_with_an_escape(void) {
+    static const char letters[] = "tnrbf";
+    char written[8];
     name_count = 0;
-    memset(table, 0, sizeof table);
     for (unsigned i = 0; i < 94 * 94 * 5; i++) {
-        bare[0] = controls[i % 5];
-        bare[1] = (char)(33 + i / 5 % 94);
-        bare[2] = (char)(33 + i / 470);
-        if (strpbrk(bare, "\"\\") || (name_count >= n && !is_marked(bare))) continue;
-        enter(bare);
-        sprintf(written, "\\%c%s", letters[i % 5], bare + 1);
+        char x = (char)(33 + i / 5 % 94), y = (char)(33 + i / 470);
+        if (strchr("\"\\", x) || strchr("\"\\", y)) continue;
+        sprintf(written, "\\%c%c%c", letters[i % 5], x, y);
         keep(written);
     }
-}
-
-/* Names of n letters whose mark, before it is cut to 32 bits, is m: from the last letter on, those that leave a number that 31 divides. */
-static void names_marked(uint64_t m, unsigned n, char *name) {
-    if (n == 0) {
-        if (m == 0 && name[0] > '9') keep(name);
-        return;
-    }
-    for (const char *c = LETTERS; *c; c++)
-        if ((uint8_t)*c <= m && (m - (uint8_t)*c) % 31 == 0) {
-            name[n - 1] = *c;
-            names_marked((m - (uint8_t)*c) / 31, n - 1, name);
-        }
-}
-
-/* Names of eight letters that all have one mark. */
-static void names_of_one_mark(void) {
-    char name[32] = "";
-    name_count = 0;
-    for (uint64_t k = 0; k < 805; k++) names_marked(mark("mmmmmmmm") + k * 4294967296, 8, name);
 }
 
 /* The first letter of each becomes an escape. */
@@ -247,6 +209,17 @@ static void first_fixed(const char *space, const char *name, unsigned n) {
     more("\"}", 1);
 }
 
+/* Fields whose types are unions of as many references as are still compared one by one. */
+static void small_unions(void) {
+    char form[256] = "{\"name\":\"%s\",\"type\":[", head[512];
+    short_names(1);
+    for (unsigned i = 0; i < 11; i++) sprintf(form + strlen(form), "%s\"%s\"", i ? "," : "", names[i]);
+    strcat(form, "]}");
+    sprintf(head, "{\"type\":\"record\",\"name\":\"%s.R\",\"fields\":[", namespace);
+    list(head, form, "]}");
+    time_text("fields, each a union of 11 references");
+}
+
 static void unions(void) {
     char deep[2048] = "";
     short_names(1);
@@ -266,61 +239,75 @@ static void unions(void) {
     time_union("union, first member has 2,000 keys with an escape", REFERENCE_FORM);
     escape_first();
     time_union("union, references with an escape", REFERENCE_FORM);
-    names_of_one_mark();
-    time_union("union, references of one mark", REFERENCE_FORM);
+    names_of_one_place();
+    time_union("union, references of one place", REFERENCE_FORM);
     first_fixed(namespace, names[--name_count], 2300);
-    time_union("union, one mark, first has a namespace of escapes", REFERENCE_FORM);
+    time_union("union, one place, first has a namespace of escapes", REFERENCE_FORM);
+    short_names(1);
+    strcpy(names[5900], "a");
+    time_union("union, the last reference twice", REFERENCE_FORM);
+    small_unions();
 }
 
 static void symbols(void) {
     char tail[64];
-    crowded_names(900);
-    time_enum("enum, a full table of marks, the last symbol twice", ",\"aaa\"]}");
+    short_names(1);
+    time_enum("enum, short names, the last symbol twice", ",\"a\"]}");
     escape_first();
-    time_enum("enum, names with an escape, the last twice", ",\"aaa\"]}");
-    names_of_one_mark();
-    time_enum("enum, names of one mark", "]}");
+    time_enum("enum, names with an escape, the last twice", ",\"a\"]}");
+    names_of_one_place();
+    time_enum("enum, names of one place", "]}");
     escape_first();
     sprintf(tail, ",\"%s\"]}", names[0]);
-    time_enum("enum, names of one mark with an escape, the last twice", tail);
-    crowded_strings(1500);
+    time_enum("enum, names of one place with an escape, the last twice", tail);
+    strings_with_an_escape();
     time_enum("enum, strings with an escape that are no names", "]}");
-    crowded_strings(1200);
     more("\"", 1);
     more("\\uffff", 1500);
     more("\"", 1);
     time_enum("enum, first symbol of 1,500 escapes", "]}");
 }
 
-/* A field with n aliases, each with an escape, and as names those that are marked by them. */
+/* A field with n aliases, each with an escape. */
 static void first_field(unsigned n) {
     char name[32], alias[64];
-    name_count = 0;
-    memset(table, 0, sizeof table);
     more("{\"name\":\"a\",\"type\":[],\"aliases\":[", 1);
-    for (unsigned i = 0; name_of(name, 3, i); i++) {
-        if (i < n) {
-            enter(name);
-            sprintf(alias, "%s\"\\u%04x%s\"", i ? "," : "", (unsigned)name[0], name + 1);
-            more(alias, 1);
-        } else if (is_marked(name)) {
-            keep(name);
-        }
+    for (unsigned i = 0; i < n; i++) {
+        name_of(name, 3, i);
+        sprintf(alias, "%s\"\\u%04x%s\"", i ? "," : "", (unsigned)name[0], name + 1);
+        more(alias, 1);
     }
     more("]}", 1);
 }
 
+/* A field with as many aliases as fit beside n fields, so that the table is as full as it can be. */
+static void full_field(unsigned n) {
+    char alias[64];
+    more("{\"name\":\"aaaaaa\",\"type\":[],\"aliases\":[", 1);
+    for (unsigned i = 0; i < n; i++) {
+        sprintf(alias, "%s\"%s\"", i ? "," : "", names[i]);
+        more(alias, 1);
+    }
+    more("]}", 1);
+    for (unsigned i = n; i < name_count; i++) strcpy(names[i - n], names[i]);
+    name_count -= n;
+}
+
 static void fields(void) {
     first_field(1200);
+    names_of_one_place();
     time_fields("fields, first has 1,200 aliases with an escape", FIELD_FORM);
-    names_of_one_mark();
-    time_fields("fields of one mark", FIELD_FORM);
+    time_fields("fields of one place", FIELD_FORM);
+    short_names(1);
+    full_field(4000);
+    time_fields("fields, first has 4,000 aliases", FIELD_FORM);
+    names_of_one_place();
     more("{\"name\":\"a\",\"type\":[]", 1);
     more(",\"\\n\\n\\n\\n\":0", 1100);
     more("}", 1);
-    time_fields("fields of one mark, first has 1,100 keys of escapes", FIELD_FORM);
+    time_fields("fields of one place, first has 1,100 keys of escapes", FIELD_FORM);
     escape_first();
-    time_fields("fields of one mark, names and keys with an escape", "{\"n\\u0061me\":\"%s\",\"typ\\u0065\":[]}");
+    time_fields("fields of one place, names and keys with an escape", "{\"n\\u0061me\":\"%s\",\"typ\\u0065\":[]}");
 }
 
 /* Texts that are read in one pass. */
