@@ -38,7 +38,7 @@ use Rattle.rules.specs.declared.standing.Standing.the-variants.{Alone, M
 use Rattle.form.specs.Checks.{fault, must}
 use Rattle.form.specs.Spots.{onSpot, asText}
 use Rattle.form.specs.Names.{fullAt, namespaceOf, definedAt}
-use Rattle.form.specs.Forms.{formOf, wordKind, found, foundOf}
+use Rattle.form.specs.Forms.{formOf, wordKind, foundOf}
 use Rattle.rules.specs.declared.unions.Apart.{Apart}
 use Rattle.rules.specs.declared.unions.Apart.the-variants as apart
 use Rattle.rules.specs.Unions.{Head, unnamed, called, clash, wordHead, definitionHead, headOf, headNumber, nameOf, byName, apartOf, nameAfter, before, isNew, unionCheck}

@@ -4,8 +4,6 @@ use mathlib.Core.Path.{_≡_, refl, sym, ap, ap₂, _∙_}
 use mathlib.Core.Bool.{Bool, true, false, not, cond, _&&_, _||_}
 use mathlib.Core.List.{List, [], _∷_, _++_, map, map-append, append-assoc, append-nil}
 use Prim.Native.Nat.{ℕ}
-use native.Mathlib.Omega.{arith}
-use lib.Dec.{eqb}
 use lib.ListN.{length}
 use Rattle.answer.specs.declared.refusal.Fault.{Fault}
 use Rattle.answer.specs.declared.refusal.Why.the-variants.{SymbolNotAString, SymbolTwice, DefaultNotAString, DefaultNotASymbol, FieldNameTaken}
@@ -18,8 +16,8 @@ use Rattle.view.specs.Values.{shapeAt}
 use Rattle.view.specs.Strings.{stringAt}
 use Rattle.view.specs.Members.{membersOf, titlesOf}
 use Rattle.view.specs.declared.members.Titles.{Titles}
-use Rattle.view.specs.Elements.{firstElement, nextElement, elementsAt, elements}
-use Rattle.view.proofs.Laws.{left-start, left-done, left-next}
+use Rattle.view.specs.Elements.{nextElement, elementsAt, elements}
+use Rattle.view.proofs.Laws.{left-done, left-next}
 use Rattle.form.specs.declared.check.Check.{Check}
 use Rattle.form.specs.declared.check.Check.the-variants.{Fine, Bad}
 use Rattle.form.specs.Checks.{fault, must, _then_, eachOf}
@@ -28,7 +26,7 @@ use Rattle.form.specs.Names.{simpleCheck}
 use Rattle.rules.specs.Unions.{before}
 use Rattle.rules.specs.Symbols.{symbolsNew, symbolsCheck, defaultCheck}
 use Rattle.rules.specs.Fields.{fieldNameAt, fieldName, takenBy, takenAmong, fieldNamesCheck}
-use Rattle.rules.proofs.Earlier.{Passed, passed-start, passed-next, passed-before, some, before-end}
+use Rattle.rules.proofs.Earlier.{some, before-end}
 
 -- ---- one of some strings of the text
 

@@ -1,7 +1,7 @@
 -- The members of a union that are surely new: what a mark that is not there says of a head, and the turns of the loop over the members.
 -- Assumes nothing.
 use mathlib.Core.Path.{_≡_, refl, sym, ap, subst, _∙_}
-use mathlib.Core.Bool.{Bool, true, false, not, _&&_, _||_}
+use mathlib.Core.Bool.{Bool, true, false, not, _&&_}
 use mathlib.Core.List.{List, [], _∷_, _++_, map, map-append, append-nil}
 use Prim.Native.Nat.{ℕ, _<_, _≤_}
 use native.Mathlib.Omega.{arith}
@@ -24,7 +24,6 @@ use Rattle.view.specs.Marks.{markOf}
 use Rattle.view.proofs.Laws.{All, Ascending, end-ahead, elements-ascend, left-done, left-next}
 use Rattle.seen.specs.Seen.{Sized, isMarked, entered, Holds}
 use Rattle.seen.proofs.Laws.{length-entered, sized-as, holds-none, holds-more, surely-new}
-use Rattle.form.specs.declared.check.Check.{Check}
 use Rattle.form.specs.declared.check.Check.the-variants.{Fine}
 use Rattle.form.specs.Forms.{formOf}
 use Rattle.rules.specs.declared.standing.Standing.the-variants.{Alone, MemberOf}

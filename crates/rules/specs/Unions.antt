@@ -8,7 +8,7 @@ use Rattle.answer.specs.declared.refusal.Why.the-variants.{UnionRuleBroken}
 use Rattle.ground.specs.Bytes.{same}
 use Rattle.row.specs.Kinds.{kindNumber}
 use Rattle.row.specs.declared.kind.Kind.{Kind}
-use Rattle.row.specs.declared.kind.Kind.the-variants.{Reference, Array, Map, Union, Record, Enum, Fixed}
+use Rattle.row.specs.declared.kind.Kind.the-variants.{Reference, Array, Map, Union}
 use Rattle.view.specs.Elements.{elements}
 use Rattle.view.specs.Strings.{stringAt}
 use Rattle.view.specs.Members.{membersOf}

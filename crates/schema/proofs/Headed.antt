@@ -30,14 +30,14 @@ use Rattle.form.specs.Names.{definedAt, definitionCheck}
 use Rattle.form.specs.declared.note.Plain.the-variants as over
 use Rattle.form.specs.Notes.{onSize, noted, noteOf}
 use Rattle.rules.specs.Symbols.{symbolsCheck, defaultCheck}
-use Rattle.rules.specs.Unions.{called, unionCheck}
+use Rattle.rules.specs.Unions.{called, unionCheck, nameOf}
 use Rattle.schema.specs.declared.walked.Walked.{Walked}
 use Rattle.schema.specs.declared.walked.Walked.the-variants.{Read, Bad}
 use Rattle.schema.specs.declared.walked.Defined.{Defined}
 use Rattle.schema.specs.declared.walked.Defined.the-variants as defined
 use Rattle.schema.specs.Out.{Out, read, rowsThen, andThen, after, no, each}
 use Rattle.schema.specs.Schema.{Around, aliasRows, symbolRows, definitionRows, definition, enumRows, fixedRows}
-use Rattle.schema.specs.Did.{Did, Titled, entry, around, headed, headRows, nameIn, symbolsRows}
+use Rattle.schema.specs.Did.{Did, Titled, entry, around, headed, headRows, symbolsRows}
 use Rattle.schema.proofs.Did.{did-bad, did-eq, did-after, did-fault, did-fine, did-end, did-titled, did-untitled, titled-as, titled-bad, rows-then, after-then}
 
 -- ---- the row and the aliases
@@ -69,30 +69,30 @@ known t namespace standing kind d q o size note {m} {m′} {c} i {x} j {r} k =
 
 module _ (t namespace : List ℕ) (standing : Standing) (kind : Kind) (d p : ℕ) (o : Members) (size : ℕ) (note : Note) {m m′ buffer : List ℕ} {c : Counts}
     {s : Spot} (e : s ≡ asText t (o .name)) where
-  pub titled-none : s ≡ Nowhere → Titled m c m′ (defined.Bad (fault NameMissing p)) buffer (nameIn t namespace o) (headRows t (around namespace standing) kind d p o size note)
-  unfolding headRows nameIn
+  pub titled-none : s ≡ Nowhere → Titled m c m′ (defined.Bad (fault NameMissing p)) buffer (nameOf t namespace o) (headRows t (around namespace standing) kind d p o size note)
+  unfolding headRows nameOf
   titled-none g = rw (← e, g) (titled-bad (no NameMissing p) (did-bad m m′ c (fault NameMissing p)) refl)
 
   module _ {q : ℕ} (g : s ≡ At q) where
-    pub titled-wrong : {f : Fault} → definitionCheck t namespace o q ≡ check.Bad f → Titled m c m′ (defined.Bad f) buffer (nameIn t namespace o) (headRows t (around namespace standing) kind d p o size note)
-    unfolding headRows nameIn
+    pub titled-wrong : {f : Fault} → definitionCheck t namespace o q ≡ check.Bad f → Titled m c m′ (defined.Bad f) buffer (nameOf t namespace o) (headRows t (around namespace standing) kind d p o size note)
+    unfolding headRows nameOf
     titled-wrong h = rw (← e, g) (titled-bad (after (definitionCheck t namespace o q) _) (did-fault (definitionCheck t namespace o q) _ h) refl)
 
     module _ (h : definitionCheck t namespace o q ≡ check.Fine) {w : List ℕ} (i : w ≡ definedAt t namespace o q) {x : Entry} (j : x ≡ entry kind d q size note)
         {r : Walked} (k : Did m c m′ r (headed t (around namespace standing) x w (o .aliases))) where
-      pub titled-stop : {f : Fault} → r ≡ Bad f → Titled m c m′ (defined.Bad f) buffer (nameIn t namespace o) (headRows t (around namespace standing) kind d p o size note)
-      unfolding headRows nameIn
+      pub titled-stop : {f : Fault} → r ≡ Bad f → Titled m c m′ (defined.Bad f) buffer (nameOf t namespace o) (headRows t (around namespace standing) kind d p o size note)
+      unfolding headRows nameOf
       titled-stop l = rw (← e, g) (titled-bad (after (definitionCheck t namespace o q) _) (did-fine (definitionCheck t namespace o q) _ h (known t namespace standing kind d q o size note i j k)) l)
 
-      pub titled-done : {c′ : Counts} {n : ℕ} → r ≡ Read c′ → n ≤ length buffer → take (n - 0) (drop 0 buffer) ≡ definedAt t namespace o q → Titled m c m′ (defined.As n c′) buffer (nameIn t namespace o) (headRows t (around namespace standing) kind d p o size note)
-      unfolding headRows nameIn
+      pub titled-done : {c′ : Counts} {n : ℕ} → r ≡ Read c′ → n ≤ length buffer → take (n - 0) (drop 0 buffer) ≡ definedAt t namespace o q → Titled m c m′ (defined.As n c′) buffer (nameOf t namespace o) (headRows t (around namespace standing) kind d p o size note)
+      unfolding headRows nameOf
       titled-done l u v = rw (← e, g) (titled-as (after (definitionCheck t namespace o q) _) (did-fine (definitionCheck t namespace o q) _ h (known t namespace standing kind d q o size note i j k)) l u v)
 
 -- ---- what comes behind
 
 pub definition-then : (t : List ℕ) (a : Around) (kind : Kind) (d p : ℕ) (o : Members) (size : ℕ) (note : Note) (rest : List ℕ → Out)
-    → definition t a kind d p o size note rest ≡ andThen (headRows t a kind d p o size note) (rest (namespacePart (nameIn t (a .namespace) o)))
-unfolding definition definitionRows headRows headed nameIn
+    → definition t a kind d p o size note rest ≡ andThen (headRows t a kind d p o size note) (rest (namespacePart (nameOf t (a .namespace) o)))
+unfolding definition definitionRows headRows headed nameOf
 definition-then t a kind d p o size note rest = go (asText t (o .name))
   where
     go : (s : Spot) → onSpot s (λ q. definitionRows t a kind d o q size note rest) (no NameMissing p)

@@ -45,7 +45,7 @@ use Rattle.form.specs.Forms.{wordKind, formOf, noMembers, foundOf}
 use Rattle.form.specs.declared.note.Plain.the-variants as over
 use Rattle.form.specs.Notes.{noted, noteOf, isDecimal}
 use Rattle.rules.specs.Fields.{fieldNamesCheck}
-use Rattle.rules.specs.Unions.{unnamed, unionCheck}
+use Rattle.rules.specs.Unions.{unnamed, unionCheck, nameOf}
 use Rattle.form.proofs.Laws.{found-form, found-members}
 use Rattle.schema.specs.declared.walked.Walked.{Walked}
 use Rattle.schema.specs.declared.walked.Walked.the-variants.{Read, Bad}
@@ -53,7 +53,7 @@ use Rattle.schema.specs.declared.walked.Defined.{Defined}
 use Rattle.schema.specs.declared.walked.Defined.the-variants as defined
 use Rattle.schema.specs.Out.{Out, refused, read, rowsThen, andThen, after, no, each}
 use Rattle.schema.specs.Schema.{Around, within, row, rowWith, newKind, referenceRows, primitiveRows, wordRows, fieldAliasRows, fieldRows, fieldsRows, recordRows, enumRows, fixedRows, partRows, unionRows, schemaBy, schemaOf, rowsOf, declared}
-use Rattle.schema.specs.Did.{Did, Titled, around, primitiveWith, wordWith, headRows, nameIn, fieldHead, elementRows}
+use Rattle.schema.specs.Did.{Did, Titled, around, primitiveWith, wordWith, headRows, fieldHead, elementRows}
 use Rattle.schema.proofs.Did.{did-bad, did-eq, did-after, did-stop, did-then, did-fault, did-fine, did-titled, did-untitled, titled-front, rows-then, after-then}
 use Rattle.schema.proofs.Steps.{objects-done, objects-next}
 use Rattle.schema.proofs.Headed.{definition-then}
@@ -162,13 +162,13 @@ module _ (schema : Around → ℕ → ℕ → Out) (t namespace : List ℕ) (sta
 
 record-then : (schema : Around → ℕ → ℕ → Out) (t : List ℕ) (a : Around) (d p : ℕ) (o : Members)
     → recordRows schema t a d p o ≡ andThen (headRows t a Record d p o 0 (noted 0))
-    (onSpot (asArray t (o .fields)) (λ v. fieldsRows (schema (within (namespacePart (nameIn t (a .namespace) o)))) t (d + 1) (fieldsIn t v)) (no FieldsMissing p))
+    (onSpot (asArray t (o .fields)) (λ v. fieldsRows (schema (within (namespacePart (nameOf t (a .namespace) o)))) t (d + 1) (fieldsIn t v)) (no FieldsMissing p))
 unfolding recordRows
 record-then schema t a d p o =
     definition-then t a Record d p o 0 (noted 0) (λ own. onSpot (asArray t (o .fields)) (λ v. fieldsRows (schema (within own)) t (d + 1) (fieldsIn t v)) (no FieldsMissing p))
 
 module _ (schema : Around → ℕ → ℕ → Out) (t namespace : List ℕ) (standing : Standing) (d p : ℕ) (o : Members) {m m″ buffer : List ℕ} {c : Counts}
-    {r : Defined} (e : Titled m c m″ r buffer (nameIn t namespace o) (headRows t (around namespace standing) Record d p o 0 (noted 0))) where
+    {r : Defined} (e : Titled m c m″ r buffer (nameOf t namespace o) (headRows t (around namespace standing) Record d p o 0 (noted 0))) where
   pub record-bad : {m′ : List ℕ} {f : Fault} → r ≡ defined.Bad f → Did m c m′ (Bad f) (recordRows schema t (around namespace standing) d p o)
   record-bad g = did-eq (record-then schema t (around namespace standing) d p o) (did-stop _ _ (did-untitled _ e g) refl)
 
@@ -181,7 +181,7 @@ module _ (schema : Around → ℕ → ℕ → Out) (t namespace : List ℕ) (sta
     pub record-fields : {m′ : List ℕ} {v : ℕ} {own : List ℕ} {r″ : Walked} → s ≡ At v → own ≡ namespacePart (take (n - 0) (drop 0 buffer))
         → Did m″ c″ m′ r″ (fieldsRows (schema (within own)) t (d + 1) (fieldsIn t v)) → Did m c m′ r″ (recordRows schema t (around namespace standing) d p o)
     record-fields {m′} {v} {own} {r″} i j k =
-        let w : own ≡ namespacePart (nameIn t namespace o) = j ∙ ap namespacePart (titled-front _ e g .1) in
+        let w : own ≡ namespacePart (nameOf t namespace o) = j ∙ ap namespacePart (titled-front _ e g .1) in
         did-eq (record-then schema t (around namespace standing) d p o)
         (did-then _ _ (did-titled _ e g) refl
         (rw (← h, i) (subst (λ (y : List ℕ). Did m″ c″ m′ r″ (fieldsRows (schema (within y)) t (d + 1) (fieldsIn t v))) w k)))

@@ -1,12 +1,12 @@
 -- A member of a union that passes 19 is read as if it stood alone.
 -- Assumes nothing.
-use mathlib.Core.Path.{_≡_, refl, sym, ap, subst, _∙_}
+use mathlib.Core.Path.{_≡_, refl, sym, ap, subst}
 use mathlib.Core.Bool.{Bool, true, false, cond}
 use mathlib.Core.List.{List, [], _∷_}
-use Prim.Native.Nat.{ℕ, zero, suc, _+_, _<_}
+use Prim.Native.Nat.{ℕ, zero, suc, _<_}
 use lib.Dec.{eqb, ltb}
 use borrow.Author.Tests.{ltb-true}
-use Rattle.answer.specs.declared.refusal.Why.the-variants.{NameMissing, FieldsMissing, SymbolsMissing, SizeMissing, NotASize}
+use Rattle.answer.specs.declared.refusal.Why.the-variants.{NameMissing, SizeMissing, NotASize}
 use Rattle.row.specs.Kinds.{kindNumber}
 use Rattle.row.specs.declared.kind.Kind.{Kind}
 use Rattle.row.specs.declared.kind.Kind.the-variants.{Reference, Array, Map, Union, Record, Enum, Fixed}
@@ -15,7 +15,7 @@ use Rattle.view.specs.declared.space.Spot.the-variants.{At, Nowhere}
 use Rattle.view.specs.declared.sizes.Size.{Size}
 use Rattle.view.specs.declared.sizes.Size.the-variants.{Value, NoSize}
 use Rattle.view.specs.declared.members.Members.{Members}
-use Rattle.view.specs.Elements.{firstElement, nextElement, elementsAt, elements}
+use Rattle.view.specs.Elements.{firstElement, nextElement, elementsAt}
 use Rattle.view.specs.Members.{membersOf}
 use Rattle.view.specs.Size.{sizeOf}
 use Rattle.view.specs.Strings.{stringAt}

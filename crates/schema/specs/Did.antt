@@ -91,9 +91,6 @@ headRows t a kind d p m size note =
     (λ q. after (definitionCheck t (a .namespace) m q) (headed t a (entry kind d q size note) (definedAt t (a .namespace) m q) (m .aliases)))
     (no NameMissing p)
 
-unfoldable pub nameIn : List ℕ → List ℕ → Members → List ℕ
-nameIn t enclosing m = onSpot (asText t (m .name)) (definedAt t enclosing m) []
-
 -- an enum behind that
 unfoldable pub symbolsRows : List ℕ → ℕ → ℕ → Members → Out
 symbolsRows t d p m =

@@ -31,7 +31,8 @@ use view::size_literal;
 ghost use Prim.Native.Nat.{_+_, _≤_, _<_};
 ghost use lib.ListN.{length};
 ghost use Rattle.schema.specs.Schema.{enumRows, fixedRows};
-ghost use Rattle.schema.specs.Did.{Did, Titled, around, headed, headRows, nameIn, symbolsRows};
+ghost use Rattle.schema.specs.Did.{Did, Titled, around, headed, headRows, symbolsRows};
+ghost use Rattle.rules.specs.Unions.{nameOf};
 ghost use Rattle.view.specs.Known.{Known};
 ghost use Rattle.seen.specs.Seen.{Sized};
 
@@ -89,7 +90,7 @@ pub(crate) fn define(
     note: Note,
 ) -> Defined
     requires { ⌜ (length (now text) ≤ 32768) × (depth < 65535) × Known (now text) (now ends) ⌝ }
-    ensures { λ r. ⌜ Titled (now (draft .entry)) counts (now (draft .exit)) r (now (full .exit)) (nameIn (now (text .entry)) (now (namespace .entry)) members) (headRows (now (text .entry)) (around (now (namespace .entry)) standing) kind depth at members size note) ⌝ }
+    ensures { λ r. ⌜ Titled (now (draft .entry)) counts (now (draft .exit)) r (now (full .exit)) (nameOf (now (text .entry)) (now (namespace .entry)) members) (headRows (now (text .entry)) (around (now (namespace .entry)) standing) kind depth at members size note) ⌝ }
 {
     let name = members.name;
     let Spot::At(q) = as_text(text, name) else {

@@ -2,7 +2,6 @@
 -- Assumes nothing.
 use mathlib.Core.Path.{_≡_}
 use Prim.Native.Nat.{_<_}
-use lib.ListN.{length}
 use Rattle.seen.specs.Seen.{from, foundIn}
 use Rattle.seen.proofs.Turns.{found-zero, found-start, found-end, found-mark, found-free, found-on}
 use borrow.Author.Needs.{needs}

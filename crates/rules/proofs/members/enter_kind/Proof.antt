@@ -1,6 +1,6 @@
 -- `rules::members::enter_kind` meets its contract.
 -- Assumes nothing.
-use mathlib.Core.Path.{_∙_, sym, ap}
+use mathlib.Core.Path.{_∙_, ap}
 use Rattle.seen.specs.Seen.{isMarked, entered}
 use Rattle.rules.proofs.Surely.{kind-union, kind-other}
 use borrow.Author.Needs.{needs}

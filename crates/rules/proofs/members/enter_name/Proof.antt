@@ -1,8 +1,8 @@
 -- `rules::members::enter_name` meets its contract: a full name whose mark is new is that of no member before.
 -- Assumes nothing.
-use mathlib.Core.Path.{_∙_, sym, ap}
+use mathlib.Core.Path.{_∙_, ap}
 use borrow.Author.Tests.{not-true}
-use Rattle.seen.specs.Seen.{isMarked, entered}
+use Rattle.seen.specs.Seen.{entered}
 use Rattle.rules.proofs.Surely.{name-unmarked}
 use borrow.Author.Needs.{needs}
 use Rattle.rules.proofs.members.enter_name.Statement.{statement}

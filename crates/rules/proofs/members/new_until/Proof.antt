@@ -2,7 +2,7 @@
 -- Assumes nothing.
 use mathlib.Core.Path.{_≡_, refl}
 use lib.ListN.{length}
-use borrow.Author.Tests.{not-true, not-false}
+use borrow.Author.Tests.{not-false}
 use Rattle.form.proofs.Laws.{visit-less}
 use Rattle.view.specs.Elements.{elementsAt}
 use Rattle.rules.proofs.Surely.{Going, going-done, going-held, going-on, going-start, going-stop}

@@ -1,6 +1,5 @@
 -- `rules::members::stands` meets its contract.
 -- Assumes nothing.
-use mathlib.Core.Path.{sym}
 use Rattle.rules.proofs.Surely.{stands-alone, stands-member}
 use Rattle.rules.proofs.members.stands.Statement.{statement}
 use Rattle.rules.proofs.members.stands.Tie as tie

@@ -1,6 +1,5 @@
 -- `view::marks::last` meets its contract.
 -- Assumes nothing.
-use mathlib.Core.Path.{_∙_, sym}
 use Rattle.view.proofs.Marking.{last-none, last-one, last-two}
 use borrow.Author.Needs.{needs}
 use native.Mathlib.Omega.{arith}
