@@ -17,7 +17,7 @@ use Rattle.name.proofs.Laws.{one-of-append}
 use Rattle.view.specs.Marks.{markOf}
 use Rattle.seen.specs.declared.Found.{Found}
 use Rattle.seen.specs.declared.Found.the-variants.{Marked, Free}
-use Rattle.seen.specs.Seen.{Sized, placeIn, from, foundIn, isThere, isMarked, put, entered, Holds}
+use Rattle.seen.specs.Seen.{Sized, placeIn, nextOf, from, foundIn, isThere, isMarked, put, entered, Holds}
 
 pub place-product : (size x : ℕ) → 0 < size → x < 4294967296 → x * size < 4294967296 * size
 place-product size x l h = mul-lt-mul-of-pos-right h l
@@ -29,15 +29,12 @@ place-below size x l h = let z = place-product size x l h in omega arith
 -- ---- one walk over the places of a mark that is not 0
 
 module _ (t : List ℕ) (m : ℕ) where
-  nextOf : ℕ → ℕ
-  nextOf x = (x + m % 4294967296) % 4294967296
-
   -- an empty place, of the table
   module _ (l : 0 < length t) (i : ℕ) where
     free-place : (n x : ℕ) → x < 4294967296 → from t m n x ≡ Free i → (getD t i 0 ≡ 0) × (i < length t)
-    unfolding from nextOf
+    unfolding from
     free-place zero x h e = let z : true ≡ false = ap isThere e in never (sym z)
-    free-place (suc n) x h e = go (eqb (getD t at 0) m) refl (eqb (getD t at 0) 0) refl (free-place n (nextOf x) (omega arith))
+    free-place (suc n) x h e = go (eqb (getD t at 0) m) refl (eqb (getD t at 0) 0) refl (free-place n (nextOf m x) (omega arith))
       where
         at : ℕ
         at = placeIn (length t) x
@@ -46,7 +43,7 @@ module _ (t : List ℕ) (m : ℕ) where
         b = place-below (length t) x l h
 
         go : (y : Bool) → eqb (getD t at 0) m ≡ y → (z : Bool) → eqb (getD t at 0) 0 ≡ z
-            → (from t m n (nextOf x) ≡ Free i → (getD t i 0 ≡ 0) × (i < length t)) → (getD t i 0 ≡ 0) × (i < length t)
+            → (from t m n (nextOf m x) ≡ Free i → (getD t i 0 ≡ 0) × (i < length t)) → (getD t i 0 ≡ 0) × (i < length t)
         go true p y q f = let z : Marked ≡ Free i = rw p at e in let w : true ≡ false = ap isThere z in never (sym w)
         go false p true q f =
             let z : Free at ≡ Free i = rw (p, q) at e in
@@ -60,15 +57,15 @@ module _ (t : List ℕ) (m : ℕ) where
 
     -- what is there is there when an empty place is filled
     there-stays : (n x : ℕ) → isThere (from t m n x) ≡ true → isThere (from (set t i v) m n x) ≡ true
-    unfolding from nextOf
+    unfolding from
     there-stays zero x e = refl
-    there-stays (suc n) x e = go (eqb (getD t at 0) m) refl (eqb (getD t at 0) 0) refl (there-stays n (nextOf x))
+    there-stays (suc n) x e = go (eqb (getD t at 0) m) refl (eqb (getD t at 0) 0) refl (there-stays n (nextOf m x))
       where
         at : ℕ
         at = placeIn (length t) x
 
         go : (y : Bool) → eqb (getD t at 0) m ≡ y → (z : Bool) → eqb (getD t at 0) 0 ≡ z
-            → (isThere (from t m n (nextOf x)) ≡ true → isThere (from (set t i v) m n (nextOf x)) ≡ true)
+            → (isThere (from t m n (nextOf m x)) ≡ true → isThere (from (set t i v) m n (nextOf m x)) ≡ true)
             → isThere (from (set t i v) m (suc n) x) ≡ true
         go true p y q f =
             let z = eqb-true (getD t at 0) m p in
@@ -80,15 +77,15 @@ module _ (t : List ℕ) (m : ℕ) where
   -- the mark is there when it fills the place that the walk found
   module _ (i : ℕ) (b : i < length t) where
     filled-there : (n x : ℕ) → from t m n x ≡ Free i → isThere (from (set t i m) m n x) ≡ true
-    unfolding from nextOf
+    unfolding from
     filled-there zero x e = refl
-    filled-there (suc n) x e = go (eqb (getD t at 0) m) refl (eqb (getD t at 0) 0) refl (eqb at i) refl (filled-there n (nextOf x))
+    filled-there (suc n) x e = go (eqb (getD t at 0) m) refl (eqb (getD t at 0) 0) refl (eqb at i) refl (filled-there n (nextOf m x))
       where
         at : ℕ
         at = placeIn (length t) x
 
         go : (y : Bool) → eqb (getD t at 0) m ≡ y → (w : Bool) → eqb (getD t at 0) 0 ≡ w → (z : Bool) → eqb at i ≡ z
-            → (from t m n (nextOf x) ≡ Free i → isThere (from (set t i m) m n (nextOf x)) ≡ true)
+            → (from t m n (nextOf m x) ≡ Free i → isThere (from (set t i m) m n (nextOf m x)) ≡ true)
             → isThere (from (set t i m) m (suc n) x) ≡ true
         go y p w q true r f = rw (length-set, eqb-true at i r, getD-set-same t i m 0 b, eq-eqb m m refl)
         go true p w q false r f = let z : Marked ≡ Free i = rw p at e in let w : true ≡ false = ap isThere z in never (sym w)

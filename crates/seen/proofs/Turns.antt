@@ -3,13 +3,13 @@
 use mathlib.Core.Path.{_≡_, ap, _∙_}
 use mathlib.Core.Bool.{true, false}
 use mathlib.Core.List.{List}
-use Prim.Native.Nat.{ℕ, suc, _+_, _-_, _/_, _%_, _<_, _≤_}
+use Prim.Native.Nat.{ℕ, suc, _-_, _/_, _%_, _<_, _≤_}
 use native.Mathlib.Omega.{arith}
 use lib.ListN.{length, getD, set}
 use borrow.Author.Tests.{eq-eqb, ne-eqb}
 use Rattle.seen.specs.declared.Found.{Found}
 use Rattle.seen.specs.declared.Found.the-variants.{Marked, Free}
-use Rattle.seen.specs.Seen.{placeIn, from, foundIn, isMarked, entered}
+use Rattle.seen.specs.Seen.{placeIn, nextOf, from, foundIn, isMarked, entered}
 
 pub found-zero : (t : List ℕ) (m : ℕ) → m ≡ 0 → Marked ≡ foundIn t m
 unfolding foundIn
@@ -38,7 +38,7 @@ module _ (t : List ℕ) (m left x : ℕ) {y : Found} (inv : from t m left x ≡ 
       unfolding from
       found-free f = rw (← p, ne-eqb (getD t at 0) m n, eq-eqb (getD t at 0) 0 f) at here
 
-      pub found-on : (getD t at 0 ≡ 0 → ⊥) → from t m (left - 1) ((x + m % 4294967296) % 4294967296) ≡ y
+      pub found-on : (getD t at 0 ≡ 0 → ⊥) → from t m (left - 1) (nextOf m x) ≡ y
       unfolding from
       found-on f = rw (← p, ne-eqb (getD t at 0) m n, ne-eqb (getD t at 0) 0 f) at here
 

@@ -43,7 +43,7 @@ fn find(table: &[u64], mark: u64) -> Found
         if held == 0 {
             return Found::Free(at);
         }
-        x = (x + mark % 4294967296) % 4294967296;
+        x = (x + (mark / 65536 % 4096 * 2 + 1) * 524288) % 4294967296;
         left -= 1;
     }
     Found::Marked

@@ -39,8 +39,17 @@ returns-3 : tie.Need-returns-3 Inv-loop μ-loop
 returns-3 c =
     found-free _ _ _ _ (c .before .before .before .before .before .loop .inv .1) (c .before .before .before .before .loop-test .taken) (c .before .before .before .place .ensures .0) (c .before .if2 .left) (c .if3 .taken)
 
+mul-x : tie.Need-mul-x Inv-loop μ-loop
+mul-x c = search needs
+
 add-x : tie.Need-add-x Inv-loop μ-loop
 add-x c = search needs
+
+mul-x-2 : tie.Need-mul-x-2 Inv-loop μ-loop
+mul-x-2 c = search needs
+
+add-x-2 : tie.Need-add-x-2 Inv-loop μ-loop
+add-x-2 c = search needs
 
 sub-left : tie.Need-sub-left Inv-loop μ-loop
 sub-left c = search needs
@@ -68,7 +77,10 @@ find-spec =
     shared-slice-read-held
     returns-2
     returns-3
+    mul-x
     add-x
+    mul-x-2
+    add-x-2
     sub-left
     loop-less
     loop-again
