@@ -3,8 +3,8 @@
 use mathlib.Core.Path.{_≡_, refl, sym, ap, _∙_}
 use mathlib.Core.Bool.{Bool, true, false, _||_, or-false}
 use mathlib.Core.List.{List, [], _∷_, _++_}
-use Prim.Native.Nat.{ℕ, zero, suc, _+_, _*_, _/_, _%_, _<_}
-use native.Mathlib.Nat.{mul-lt-mul-of-pos-right}
+use Prim.Native.Nat.{ℕ, zero, suc, _+_, _*_, _/_, _%_, _<_, _≤_}
+use native.Mathlib.Nat.{mul-le-mul, mul-lt-mul-of-pos-right, div-le-self}
 use native.Mathlib.Omega.{arith}
 use lib.Dec.{eqb}
 use lib.ListN.{length, getD, set, length-set}
@@ -26,6 +26,11 @@ pub place-below : (size x : ℕ) → 0 < size → x < 4294967296 → placeIn siz
 unfolding placeIn
 place-below size x l h = let z = place-product size x l h in omega arith
 
+pub next-fits : (size m : ℕ) → (m / 65536 % 4096 * 2 + 1) * (4294967296 / size) ≤ 8191 * 4294967296
+next-fits size m =
+    let a : m / 65536 % 4096 * 2 + 1 ≤ 8191 = omega arith in
+    mul-le-mul a (div-le-self 4294967296 size)
+
 -- ---- one walk over the places of a mark that is not 0
 
 module _ (t : List ℕ) (m : ℕ) where
@@ -34,7 +39,7 @@ module _ (t : List ℕ) (m : ℕ) where
     free-place : (n x : ℕ) → x < 4294967296 → from t m n x ≡ Free i → (getD t i 0 ≡ 0) × (i < length t)
     unfolding from
     free-place zero x h e = let z : true ≡ false = ap isThere e in never (sym z)
-    free-place (suc n) x h e = go (eqb (getD t at 0) m) refl (eqb (getD t at 0) 0) refl (free-place n (nextOf m x) (omega arith))
+    free-place (suc n) x h e = go (eqb (getD t at 0) m) refl (eqb (getD t at 0) 0) refl (free-place n (nextOf (length t) m x) (omega arith))
       where
         at : ℕ
         at = placeIn (length t) x
@@ -43,7 +48,7 @@ module _ (t : List ℕ) (m : ℕ) where
         b = place-below (length t) x l h
 
         go : (y : Bool) → eqb (getD t at 0) m ≡ y → (z : Bool) → eqb (getD t at 0) 0 ≡ z
-            → (from t m n (nextOf m x) ≡ Free i → (getD t i 0 ≡ 0) × (i < length t)) → (getD t i 0 ≡ 0) × (i < length t)
+            → (from t m n (nextOf (length t) m x) ≡ Free i → (getD t i 0 ≡ 0) × (i < length t)) → (getD t i 0 ≡ 0) × (i < length t)
         go true p y q f = let z : Marked ≡ Free i = rw p at e in let w : true ≡ false = ap isThere z in never (sym w)
         go false p true q f =
             let z : Free at ≡ Free i = rw (p, q) at e in
@@ -59,13 +64,13 @@ module _ (t : List ℕ) (m : ℕ) where
     there-stays : (n x : ℕ) → isThere (from t m n x) ≡ true → isThere (from (set t i v) m n x) ≡ true
     unfolding from
     there-stays zero x e = refl
-    there-stays (suc n) x e = go (eqb (getD t at 0) m) refl (eqb (getD t at 0) 0) refl (there-stays n (nextOf m x))
+    there-stays (suc n) x e = go (eqb (getD t at 0) m) refl (eqb (getD t at 0) 0) refl (there-stays n (nextOf (length t) m x))
       where
         at : ℕ
         at = placeIn (length t) x
 
         go : (y : Bool) → eqb (getD t at 0) m ≡ y → (z : Bool) → eqb (getD t at 0) 0 ≡ z
-            → (isThere (from t m n (nextOf m x)) ≡ true → isThere (from (set t i v) m n (nextOf m x)) ≡ true)
+            → (isThere (from t m n (nextOf (length t) m x)) ≡ true → isThere (from (set t i v) m n (nextOf (length t) m x)) ≡ true)
             → isThere (from (set t i v) m (suc n) x) ≡ true
         go true p y q f =
             let z = eqb-true (getD t at 0) m p in
@@ -79,13 +84,13 @@ module _ (t : List ℕ) (m : ℕ) where
     filled-there : (n x : ℕ) → from t m n x ≡ Free i → isThere (from (set t i m) m n x) ≡ true
     unfolding from
     filled-there zero x e = refl
-    filled-there (suc n) x e = go (eqb (getD t at 0) m) refl (eqb (getD t at 0) 0) refl (eqb at i) refl (filled-there n (nextOf m x))
+    filled-there (suc n) x e = go (eqb (getD t at 0) m) refl (eqb (getD t at 0) 0) refl (eqb at i) refl (filled-there n (nextOf (length t) m x))
       where
         at : ℕ
         at = placeIn (length t) x
 
         go : (y : Bool) → eqb (getD t at 0) m ≡ y → (w : Bool) → eqb (getD t at 0) 0 ≡ w → (z : Bool) → eqb at i ≡ z
-            → (from t m n (nextOf m x) ≡ Free i → isThere (from (set t i m) m n (nextOf m x)) ≡ true)
+            → (from t m n (nextOf (length t) m x) ≡ Free i → isThere (from (set t i m) m n (nextOf (length t) m x)) ≡ true)
             → isThere (from (set t i m) m (suc n) x) ≡ true
         go y p w q true r f = rw (length-set, eqb-true at i r, getD-set-same t i m 0 b, eq-eqb m m refl)
         go true p w q false r f = let z : Marked ≡ Free i = rw p at e in let w : true ≡ false = ap isThere z in never (sym w)

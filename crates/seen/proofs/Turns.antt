@@ -38,9 +38,9 @@ module _ (t : List ℕ) (m left x : ℕ) {y : Found} (inv : from t m left x ≡ 
       unfolding from
       found-free f = rw (← p, ne-eqb (getD t at 0) m n, eq-eqb (getD t at 0) 0 f) at here
 
-      pub found-on : (getD t at 0 ≡ 0 → ⊥) → from t m (left - 1) (nextOf m x) ≡ y
+      pub found-on : (getD t at 0 ≡ 0 → ⊥) → {z : ℕ} → z ≡ nextOf (length t) m x → from t m (left - 1) z ≡ y
       unfolding from
-      found-on f = rw (← p, ne-eqb (getD t at 0) m n, ne-eqb (getD t at 0) 0 f) at here
+      found-on f g = rw g (rw (← p, ne-eqb (getD t at 0) m n, ne-eqb (getD t at 0) 0 f) at here)
 
 module _ (t : List ℕ) (m : ℕ) {f : Found} (e : f ≡ foundIn t m) where
   pub enter-marked : f ≡ Marked → (true ≡ isMarked t m) × (t ≡ entered t m)

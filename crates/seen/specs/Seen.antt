@@ -20,16 +20,16 @@ pub record Sized (table : List ℕ) : Type 0 where
 unfoldable pub placeIn : ℕ → ℕ → ℕ
 placeIn size x = x * size / 4294967296
 
--- the next number lies at the mark's own distance, an odd number of 8,192ths, so that the places of a table of 8,192 are all passed before one is met again
-abbrev pub nextOf : ℕ → ℕ → ℕ
-nextOf m x = (x + (m / 65536 % 4096 * 2 + 1) * 524288) % 4294967296
+-- the next number lies at the mark's own distance, an odd number of places: where their number is a power of two all are passed before one is met again
+abbrev pub nextOf : ℕ → ℕ → ℕ → ℕ
+nextOf size m x = (x + (m / 65536 % 4096 * 2 + 1) * (4294967296 / size)) % 4294967296
 
 -- from a number on: the mark, or an empty place. After n places it counts as marked
 unfoldable pub from : List ℕ → ℕ → ℕ → ℕ → Found
 from table m zero x = Marked
 from table m (suc n) x =
     let at = placeIn (length table) x in
-    let on = from table m n (nextOf m x) in
+    let on = from table m n (nextOf (length table) m x) in
     cond (eqb (getD table at 0) m) Marked (cond (eqb (getD table at 0) 0) (Free at) on)
 
 -- 0 is an empty place, and so no mark that could be entered: it counts as marked

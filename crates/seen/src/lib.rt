@@ -3,7 +3,7 @@
 ghost use mathlib.Core.Path.{_≡_};
 ghost use Prim.Native.Nat.{_<_, _≤_};
 ghost use lib.ListN.{length};
-ghost use Rattle.seen.specs.Seen.{Sized, placeIn, foundIn, isMarked, entered};
+ghost use Rattle.seen.specs.Seen.{Sized, placeIn, nextOf, foundIn, isMarked, entered};
 
 // Where a mark is looked for: it is there, or an empty place is.
 pub enum Found {
@@ -25,6 +25,15 @@ fn place(size: usize, x: u64) -> usize
     (x * wide(size) / 4294967296) as usize
 }
 
+// The next number, an odd number of places on.
+fn next(size: usize, mark: u64, x: u64) -> u64
+    requires { ⌜ (0 < size) × (x < 4294967296) ⌝ }
+    ensures { λ r. ⌜ (r ≡ nextOf size mark x) × (r < 4294967296) ⌝ }
+{
+    let distance = (mark / 65536 % 4096 * 2 + 1) * (4294967296 / wide(size));
+    (x + distance) % 4294967296
+}
+
 fn find(table: &[u64], mark: u64) -> Found
     requires { ⌜ Sized (now table) ⌝ }
     ensures { λ r. ⌜ r ≡ foundIn (now (table .entry)) mark ⌝ }
@@ -43,7 +52,7 @@ fn find(table: &[u64], mark: u64) -> Found
         if held == 0 {
             return Found::Free(at);
         }
-        x = (x + (mark / 65536 % 4096 * 2 + 1) * 524288) % 4294967296;
+        x = next(table.len(), mark, x);
         left -= 1;
     }
     Found::Marked

@@ -39,17 +39,9 @@ returns-3 : tie.Need-returns-3 Inv-loop μ-loop
 returns-3 c =
     found-free _ _ _ _ (c .before .before .before .before .before .loop .inv .1) (c .before .before .before .before .loop-test .taken) (c .before .before .before .place .ensures .0) (c .before .if2 .left) (c .if3 .taken)
 
-mul-x : tie.Need-mul-x Inv-loop μ-loop
-mul-x c = search needs
-
-add-x : tie.Need-add-x Inv-loop μ-loop
-add-x c = search needs
-
-mul-x-2 : tie.Need-mul-x-2 Inv-loop μ-loop
-mul-x-2 c = search needs
-
-add-x-2 : tie.Need-add-x-2 Inv-loop μ-loop
-add-x-2 c = search needs
+next-requires : tie.Need-next-requires Inv-loop μ-loop
+next-requires c κs =
+    (c .before .before .before .before .before .before .before .before .pre .some, c .before .before .before .before .before .loop .inv .0)
 
 sub-left : tie.Need-sub-left Inv-loop μ-loop
 sub-left c = search needs
@@ -59,7 +51,7 @@ loop-less c = search needs
 
 loop-again : tie.Need-loop-again Inv-loop μ-loop
 loop-again c =
-    (omega arith, found-on _ _ _ _ (c .before .before .before .before .before .loop .inv .1) (c .before .before .before .before .loop-test .taken) (c .before .before .before .place .ensures .0) (c .before .if2 .left) (c .if3 .left))
+    (c .next .ensures .1, found-on _ _ _ _ (c .before .before .before .before .before .before .loop .inv .1) (c .before .before .before .before .before .loop-test .taken) (c .before .before .before .before .place .ensures .0) (c .before .before .if2 .left) (c .before .if3 .left) (c .next .ensures .0))
 
 returns-4 : tie.Need-returns-4 Inv-loop μ-loop
 returns-4 c = found-end _ _ _ _ (c .before .loop .inv .1) (c .loop-test .left)
@@ -77,10 +69,7 @@ find-spec =
     shared-slice-read-held
     returns-2
     returns-3
-    mul-x
-    add-x
-    mul-x-2
-    add-x-2
+    next-requires
     sub-left
     loop-less
     loop-again
