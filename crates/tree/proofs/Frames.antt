@@ -89,7 +89,7 @@ module _ (t : List ℕ) (p x y : ℕ) (P : List ℕ → Type 0) where
         rests =
             let a : toRest 0 0 (x ∷ ((w₂ ++ (m ++ w₃)) ++ (y ∷ (w₄ ++ u)))) ≡ 1 + toRest 0 1 ((w₂ ++ (m ++ w₃)) ++ (y ∷ (w₄ ++ u))) = up .ran (x ∷ []) bytes ((w₂ ++ (m ++ w₃)) ++ (y ∷ (w₄ ++ u))) in
             let b : toRest 0 1 ((w₂ ++ (m ++ w₃)) ++ (y ∷ (w₄ ++ u))) ≡ length (w₂ ++ (m ++ w₃)) + toRest 0 1 (y ∷ (w₄ ++ u)) =
-                run-join (run-ws 0) (run-join on (run-ws 0)) .ran (w₂ ++ (m ++ w₃)) (join dw₂ (join dm dw₃)) (y ∷ (w₄ ++ u)) in
+            run-join (run-ws 0) (run-join on (run-ws 0)) .ran (w₂ ++ (m ++ w₃)) (join dw₂ (join dm dw₃)) (y ∷ (w₄ ++ u)) in
             let c : toRest 0 1 (y ∷ (w₄ ++ u)) ≡ 1 = closes 0 1 y (w₄ ++ u) down in
             omega arith
 

@@ -12,7 +12,7 @@ use Rattle.view.specs.Values.{count, skipOf, shapeOf, isValue, startsValue}
 use Rattle.view.specs.Ends.{endOf, isToken, isDelimiter}
 use Rattle.view.specs.Elements.{valueFrom, nextElement, elementsAt}
 use Rattle.view.specs.Strings.{stringAt}
-use Rattle.view.specs.Members.{Member, valueOf, isMember, keyFrom, keyBehind, keyAfter, keysAt} 
+use Rattle.view.specs.Members.{Member, valueOf, isMember, keyFrom, keyBehind, keyAfter, keysAt}
 use Rattle.view.specs.Members.{memberOf as member-at}
 use Rattle.view.specs.declared.space.Spot.{Spot}
 use Rattle.view.specs.declared.space.Spot.the-variants.{At, Nowhere}
@@ -62,6 +62,7 @@ items-stop : {P : List ℕ → Type 0} {s z : List ℕ} (c : ℕ) → isDelimite
 items-stop c h none d u = stops-at c h d u
 items-stop {z = z} c h (more {t = t} (join {s = a} {t = i} x y) r) d u =
     ap (count isToken) (append-assoc (a ++ i) t (z ++ u) ∙ append-assoc a i (t ++ (z ++ u))) ∙ stops-at 44 comma x (i ++ (t ++ (z ++ u)))
+
 module _ (t : List ℕ) (n : ℕ) where
   -- what a value of the array or the object is shown as
   abbrev pub Sees : Type 0
@@ -190,7 +191,7 @@ module _ (t : List ℕ) (n : ℕ) where
   entry x p at {key} {v} {y} e k h rest r =
       let q : skipOf t x ≡ p = e ∙ k .here in
       let f : rest ≡ shownKeys (keyAfter t p) =
-          r ∙ ap (λ (z : ℕ). shownKeys (commaKey z)) (sym (ap (λ (z : ℕ). skipOf t (endOf t z)) (k .value-at) ∙ h .ended)) ∙ ap shownKeys (sym (next-key (valueOf t p))) in
+      r ∙ ap (λ (z : ℕ). shownKeys (commaKey z)) (sym (ap (λ (z : ℕ). skipOf t (endOf t z)) (k .value-at) ∙ h .ended)) ∙ ap shownKeys (sym (next-key (valueOf t p))) in
       let g : y ≡ shown t (suc n) (valueOf t p) = h .tree ∙ ap (shown t (suc n)) (sym (k .value-at)) in
       let s : startsValue (byteAt t (valueOf t p)) ≡ true = ap (λ (z : ℕ). startsValue (byteAt t z)) (k .value-at) ∙ h .starts in
       ap₂ (λ (z w : Tree). under z w rest) (k .key-is) g ∙ ap (under (textAt t p) (shown t (suc n) (valueOf t p))) f ∙ keys-one p
