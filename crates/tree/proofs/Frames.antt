@@ -1,8 +1,8 @@
 -- Strings and brackets: where they end, and where what they hold begins. Assumes nothing.
 use mathlib.Core.Path.{_≡_, refl, sym, ap, _∙_}
-use mathlib.Core.Bool.{Bool, true, false, cond}
+use mathlib.Core.Bool.{true, false}
 use mathlib.Core.List.{List, [], _∷_, _++_, append-assoc}
-use Prim.Native.Nat.{ℕ, suc, _+_}
+use Prim.Native.Nat.{ℕ, _+_}
 use native.Mathlib.Omega.{arith}
 use lib.ListN.{length, drop, length-append}
 use Rattle.json.specs.Json.{isSpace}
@@ -10,9 +10,9 @@ use Rattle.ground.specs.Bytes.{byteAt}
 use Rattle.view.specs.Values.{skipOf}
 use Rattle.view.specs.Ends.{toRest, modeAfter, depthAfter, atRest, closingOf, isBlock, endOf}
 use Rattle.viewed.proofs.Values.{byte-here}
-use Rattle.grammar.specs.Grammar.{bytes, Byte, _·_, join, Many, ws, char, string}
-use Rattle.tree.proofs.Standing.{past, front, back, skip-over, skip-none}
-use Rattle.tree.proofs.Rests.{Runs, run-byte, run-join, run-ws, run-opened}
+use Rattle.grammar.specs.Grammar.{bytes, Byte, join, ws, string}
+use Rattle.tree.proofs.Standing.{past, back, skip-over, skip-none}
+use Rattle.tree.proofs.Rests.{Runs, run-join, run-ws, run-opened}
 
 -- the byte that closes what is open
 closes : (m d b : ℕ) (u : List ℕ) → atRest (modeAfter m b) (depthAfter m b d) ≡ true → toRest m d (b ∷ u) ≡ 1

@@ -1,8 +1,8 @@
 -- The way to the theorems, which are in `Theorems`.
+mod Standing
 mod Digits
 pub mod Utf8
-pub mod Strings
-mod Standing
+mod Strings
 mod Rests
 mod Tokens
 mod Frames

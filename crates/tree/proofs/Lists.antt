@@ -1,6 +1,6 @@
 -- The values of an array and the members of an object, by the views. Assumes nothing.
 use mathlib.Core.Path.{_≡_, refl, sym, ap, ap₂, _∙_}
-use mathlib.Core.Bool.{Bool, true, false, cond}
+use mathlib.Core.Bool.{true, false, cond}
 use mathlib.Core.List.{List, [], _∷_, _++_, map, append-assoc}
 use Prim.Native.Nat.{ℕ, suc, _+_}
 use native.Mathlib.Omega.{arith}
@@ -12,7 +12,7 @@ use Rattle.view.specs.Values.{count, skipOf, shapeOf, isValue, startsValue}
 use Rattle.view.specs.Ends.{endOf, isToken, isDelimiter}
 use Rattle.view.specs.Elements.{valueFrom, nextElement, elementsAt}
 use Rattle.view.specs.Strings.{stringAt}
-use Rattle.view.specs.Members.{Member, valueOf, isMember, keyFrom, keyBehind, keyAfter, keysAt}
+use Rattle.view.specs.Members.{valueOf, isMember, keyFrom, keyBehind, keyAfter, keysAt}
 use Rattle.view.specs.Members.{memberOf as member-at}
 use Rattle.view.specs.declared.space.Spot.{Spot}
 use Rattle.view.specs.declared.space.Spot.the-variants.{At, Nowhere}

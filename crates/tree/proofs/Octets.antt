@@ -2,7 +2,7 @@
 use mathlib.Core.List.{List}
 use Prim.Native.Nat.{ℕ, zero, suc, _+_}
 use lib.ListN.{length}
-use Rattle.grammar.specs.Grammar.{_·_, join, this, that, Optional, absent, present, Many, none, more, value-separator, member, object, array, value}
+use Rattle.grammar.specs.Grammar.{_·_, join, this, that, absent, present, Many, none, more, value-separator, member, object, array, value}
 use Rattle.tree.specs.Tree.{Members, valuesIn, furtherValues, membersIn, furtherMembers, memberOf, arrayOf, objectOf, treeOf, wordOf, numberOf, textOf, InUtf8, AllUtf8, MembersUtf8}
 use Rattle.tree.proofs.Utf8.{string-utf8}
 

@@ -1,6 +1,6 @@
 -- How many bytes until no string and no bracket is open any more, over the rules of the grammar. Assumes nothing.
-use mathlib.Core.Path.{_≡_, refl, sym, ap, _∙_}
-use mathlib.Core.Bool.{Bool, true, false, cond}
+use mathlib.Core.Path.{_≡_, refl, ap, _∙_}
+use mathlib.Core.Bool.{false}
 use mathlib.Core.List.{List, [], _∷_, _++_, append-assoc}
 use Prim.Native.Nat.{ℕ, zero, suc, _+_, _≤_}
 use native.Mathlib.Omega.{arith}
@@ -8,7 +8,7 @@ use lib.ListN.{length, length-append}
 use borrow.Author.Tests.{ne-eqb}
 use Rattle.view.specs.Ends.{toRest, modeAfter, depthAfter, atRest}
 use Rattle.viewed.proofs.Blocks.{open-still}
-use Rattle.grammar.specs.Grammar.{Bytes, bytes, Byte, Range, within, _·_, join, _/_, this, that, Optional, absent, present, Many, none, more, ws, DIGIT, int, number, string, char, unescaped, short, hexchar, HEXDIG, non-surrogate, high-surrogate, low-surrogate, UTF8-tail, UTF8-2, UTF8-3, UTF8-4, value-separator, name-separator, member, value}
+use Rattle.grammar.specs.Grammar.{Bytes, bytes, Byte, Range, within, _·_, join, _/_, this, that, Optional, absent, present, Many, none, more, ws, DIGIT, int, number, string, char, unescaped, short, hexchar, HEXDIG, non-surrogate, high-surrogate, low-surrogate, UTF8-tail, UTF8-2, UTF8-3, UTF8-4, value-separator, member, value}
 
 -- over the bytes of a rule the mode and the number of open brackets go from one pair to another, and do not come to rest
 pub record Runs (P : List ℕ → Type 0) (m d m′ d′ : ℕ) : Type 0 where

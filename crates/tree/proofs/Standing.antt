@@ -2,15 +2,14 @@
 use mathlib.Core.Path.{_≡_, refl, sym, ap, _∙_}
 use mathlib.Core.Bool.{false, true}
 use mathlib.Core.List.{List, [], _∷_, _++_, append-assoc}
-use Prim.Native.Nat.{ℕ, suc, _+_}
-use native.Mathlib.Nat.{add-zero}
+use Prim.Native.Nat.{ℕ, _+_}
 use native.Mathlib.Omega.{arith}
 use lib.ListN.{length, drop}
 use lib.Seq.{drop-drop, drop-at}
 use Rattle.json.specs.Json.{isSpace}
 use Rattle.view.specs.Values.{count, skipOf}
 use Rattle.view.specs.Ends.{isToken, isDelimiter}
-use Rattle.grammar.specs.Grammar.{Byte, bytes, _·_, join, this, that, Many, none, more, ws}
+use Rattle.grammar.specs.Grammar.{Byte, bytes, _·_, join, this, that, none, more, ws}
 
 module _ (t : List ℕ) (p : ℕ) where
   -- what stands behind s

@@ -7,7 +7,6 @@ use Prim.Native.Nat.{ℕ, _+_, _*_, _/_ as _÷_, _%_, _≤_}
 use native.Mathlib.Omega.{arith}
 use lib.Dec.{leb·suc-suc}
 use lib.ListN.{length, drop, length-append}
-use lib.Seq.{drop-drop, drop-append-seam}
 use borrow.Author.Tests.{eq-eqb, ne-eqb, le-ltb}
 use Rattle.view.specs.Strings.{hexOf, unitAt, utf8Of, shortOf, Part, partOf, partAt, isStop, bytesFrom, stringAt}
 use Rattle.view.proofs.Laws.{bytes-stop, bytes-next}
@@ -15,11 +14,8 @@ use Rattle.viewed.proofs.Values.{byte-here}
 use Rattle.grammar.specs.Grammar.{bytes, Byte, Range, within, _·_, join, _/_, this, that, Many, none, more, UTF8-tail, UTF8-2, UTF8-3, UTF8-4, unescaped, hexchar, short, char, string}
 use Rattle.tree.specs.Utf8.{utf8}
 use Rattle.tree.specs.Characters.{letter, hexadecimal, paired, unicode, character, characters, stringOf}
+use Rattle.tree.proofs.Standing.{past}
 use Rattle.tree.proofs.Digits.{Four, four, four-number, Single, High, Low, single, high, low}
-
--- what stands behind s
-behind : (t : List ℕ) (p : ℕ) (s u : List ℕ) → drop p t ≡ s ++ u → drop (p + length s) t ≡ u
-behind t p s u e = sym (drop-drop (length s) p t) ∙ ap (drop (length s)) e ∙ drop-append-seam s u
 
 -- such a byte does not end a string
 no-stop : (b : ℕ) → 32 ≤ b → (b ≡ 34 → ⊥) → isStop b ≡ false
@@ -70,7 +66,7 @@ module _ {P Q : List ℕ → Type 0} (c : Copies P) (k : Copies Q) where
           let l = length-append v w in
           let q : p + length v + length w ≡ p + length (v ++ w) = omega arith in
           c .copies t p v d (w ++ u) e′
-          ∙ ap (λ (x : List ℕ). v ++ x) (k .copies t (p + length v) w f u (behind t p v (w ++ u) e′))
+          ∙ ap (λ (x : List ℕ). v ++ x) (k .copies t (p + length v) w f u (past t p v (w ++ u) e′))
           ∙ sym (append-assoc v w (bytesFrom t (p + length v + length w)))
           ∙ ap (λ (x : ℕ). (v ++ w) ++ bytesFrom t x) q
 
@@ -112,20 +108,20 @@ module _ (t : List ℕ) (p : ℕ) (u : List ℕ) where
   unfolding partAt
   escape-letter b e n =
       part-seen t p 92 (b ∷ u) e (omega arith) (omega arith) {x = partOf (p + 2) (shortOf b ∷ [])}
-      (rw (byte-here t p 92 (b ∷ u) e, byte-here t (p + 1) b u (behind t p (92 ∷ []) (b ∷ u) e), ne-eqb b 117 n))
+      (rw (byte-here t p 92 (b ∷ u) e, byte-here t (p + 1) b u (past t p (92 ∷ []) (b ∷ u) e), ne-eqb b 117 n))
 
   module _ (e : drop p t ≡ 92 ∷ 117 ∷ u) (v : ℕ) (f : unitAt t (p + 2) ≡ v) where
     escape-single : (v ÷ 1024 ≡ 54 → ⊥) → bytesFrom t p ≡ utf8Of v ++ bytesFrom t (p + 6)
     unfolding partAt
     escape-single n =
         part-seen t p 92 (117 ∷ u) e (omega arith) (omega arith) {x = partOf (p + 6) (utf8Of v)}
-        (rw (byte-here t p 92 (117 ∷ u) e, byte-here t (p + 1) 117 u (behind t p (92 ∷ []) (117 ∷ u) e), f, ne-eqb (v ÷ 1024) 54 n))
+        (rw (byte-here t p 92 (117 ∷ u) e, byte-here t (p + 1) 117 u (past t p (92 ∷ []) (117 ∷ u) e), f, ne-eqb (v ÷ 1024) 54 n))
 
     escape-pair : (w : ℕ) → unitAt t (p + 8) ≡ w → v ÷ 1024 ≡ 54 → bytesFrom t p ≡ utf8Of (65536 + v % 1024 * 1024 + w % 1024) ++ bytesFrom t (p + 12)
     unfolding partAt
     escape-pair w g n =
         part-seen t p 92 (117 ∷ u) e (omega arith) (omega arith) {x = partOf (p + 12) (utf8Of (65536 + v % 1024 * 1024 + w % 1024))}
-        (rw (byte-here t p 92 (117 ∷ u) e, byte-here t (p + 1) 117 u (behind t p (92 ∷ []) (117 ∷ u) e), f, eq-eqb (v ÷ 1024) 54 n, g))
+        (rw (byte-here t p 92 (117 ∷ u) e, byte-here t (p + 1) 117 u (past t p (92 ∷ []) (117 ∷ u) e), f, eq-eqb (v ÷ 1024) 54 n, g))
 
 -- a letter
 letter-seen : (t : List ℕ) (p : ℕ) {s : List ℕ} (d : short s) (u : List ℕ) → drop p t ≡ 92 ∷ (s ++ u) → bytesFrom t p ≡ utf8 (letter d) ++ bytesFrom t (p + length (92 ∷ s))
@@ -145,14 +141,14 @@ module _ {U : ℕ → Type 0} (t : List ℕ) (p : ℕ) where
   unfolding unitAt hexadecimal
   unit-seen (four {a} {b} {c} {d} f g h k x) u e =
       let i = ap hexOf (byte-here t p a (b ∷ c ∷ d ∷ u) e) ∙ f in
-      let j = ap hexOf (byte-here t (p + 1) b (c ∷ d ∷ u) (behind t p (a ∷ []) (b ∷ c ∷ d ∷ u) e)) ∙ g in
-      let l = ap hexOf (byte-here t (p + 2) c (d ∷ u) (behind t p (a ∷ b ∷ []) (c ∷ d ∷ u) e)) ∙ h in
-      let m = ap hexOf (byte-here t (p + 3) d u (behind t p (a ∷ b ∷ c ∷ []) (d ∷ u) e)) ∙ k in
+      let j = ap hexOf (byte-here t (p + 1) b (c ∷ d ∷ u) (past t p (a ∷ []) (b ∷ c ∷ d ∷ u) e)) ∙ g in
+      let l = ap hexOf (byte-here t (p + 2) c (d ∷ u) (past t p (a ∷ b ∷ []) (c ∷ d ∷ u) e)) ∙ h in
+      let m = ap hexOf (byte-here t (p + 3) d u (past t p (a ∷ b ∷ c ∷ []) (d ∷ u) e)) ∙ k in
       omega arith
 
-  -- and a \u behind them
-  behind-unit : {s : List ℕ} → Four U s → (u : List ℕ) → drop p t ≡ 92 ∷ 117 ∷ (s ++ (92 ∷ 117 ∷ u)) → drop (p + 8) t ≡ u
-  behind-unit (four {a} {b} {c} {d} f g h k x) u e = behind t p (92 ∷ 117 ∷ a ∷ b ∷ c ∷ d ∷ 92 ∷ 117 ∷ []) u e
+  -- and a \u past them
+  past-unit : {s : List ℕ} → Four U s → (u : List ℕ) → drop p t ≡ 92 ∷ 117 ∷ (s ++ (92 ∷ 117 ∷ u)) → drop (p + 8) t ≡ u
+  past-unit (four {a} {b} {c} {d} f g h k x) u e = past t p (92 ∷ 117 ∷ a ∷ b ∷ c ∷ d ∷ 92 ∷ 117 ∷ []) u e
 
 -- the two ways to write a number in UTF-8, and to make one of a pair, are the same
 utf8-same : (c : ℕ) → utf8Of c ≡ utf8 c
@@ -171,7 +167,7 @@ module _ (t : List ℕ) (p : ℕ) where
   single-seen : (s u : List ℕ) → Four Single s → drop p t ≡ 92 ∷ 117 ∷ (s ++ u) → bytesFrom t p ≡ utf8 (hexadecimal 0 s) ++ bytesFrom t (p + 6)
   single-seen s u f e =
       let h = four-number f .1 in
-      escape-single t p (s ++ u) e (hexadecimal 0 s) (unit-seen t (p + 2) f u (behind t p (92 ∷ 117 ∷ []) (s ++ u) e)) (λ x. h (omega arith) (omega arith))
+      escape-single t p (s ++ u) e (hexadecimal 0 s) (unit-seen t (p + 2) f u (past t p (92 ∷ 117 ∷ []) (s ++ u) e)) (λ x. h (omega arith) (omega arith))
       ∙ same-bytes refl (bytesFrom t (p + 6))
 
   pair-seen : (s r u : List ℕ) → Four High s → Four Low r → drop p t ≡ 92 ∷ 117 ∷ (s ++ (92 ∷ 117 ∷ (r ++ u)))
@@ -179,8 +175,8 @@ module _ (t : List ℕ) (p : ℕ) where
   pair-seen s r u f g e =
       let h = four-number f in
       escape-pair t p (s ++ (92 ∷ 117 ∷ (r ++ u))) e
-      (hexadecimal 0 s) (unit-seen t (p + 2) f (92 ∷ 117 ∷ (r ++ u)) (behind t p (92 ∷ 117 ∷ []) (s ++ (92 ∷ 117 ∷ (r ++ u))) e))
-      (hexadecimal 0 r) (unit-seen t (p + 8) g u (behind-unit t p f (r ++ u) e)) (omega arith)
+      (hexadecimal 0 s) (unit-seen t (p + 2) f (92 ∷ 117 ∷ (r ++ u)) (past t p (92 ∷ 117 ∷ []) (s ++ (92 ∷ 117 ∷ (r ++ u))) e))
+      (hexadecimal 0 r) (unit-seen t (p + 8) g u (past-unit t p f (r ++ u) e)) (omega arith)
       ∙ same-bytes (pair-same (hexadecimal 0 s) (hexadecimal 0 r) h (four-number g)) (bytesFrom t (p + 12))
 
 -- how long they are
@@ -211,11 +207,11 @@ unfolding characters isStop
 chars-seen t p none u e = bytes-stop t p (ap isStop (byte-here t p 34 u e))
 chars-seen t p (more {s = v} {t = w} c cs) u e =
     let e′ = e ∙ append-assoc v w (34 ∷ u) in
-    char-seen t p c (w ++ (34 ∷ u)) e′ ∙ ap (λ (x : List ℕ). character c ++ x) (chars-seen t (p + length v) cs u (behind t p v (w ++ (34 ∷ u)) e′))
+    char-seen t p c (w ++ (34 ∷ u)) e′ ∙ ap (λ (x : List ℕ). character c ++ x) (chars-seen t (p + length v) cs u (past t p v (w ++ (34 ∷ u)) e′))
 
 -- a string of the grammar that stands at p: the view has its characters
 pub string-seen : (t : List ℕ) (p : ℕ) {s : List ℕ} (d : string s) (u : List ℕ) → drop p t ≡ s ++ u → stringAt t p ≡ stringOf d
 unfolding stringAt stringOf
 string-seen t p (join bytes (join {s = v} cs bytes)) u e =
     let e′ = e ∙ ap (λ (x : List ℕ). 34 ∷ x) (append-assoc v (34 ∷ []) u) in
-    rw (byte-here t p 34 (v ++ (34 ∷ u)) e′) (chars-seen t (p + 1) cs u (behind t p (34 ∷ []) (v ++ (34 ∷ u)) e′))
+    rw (byte-here t p 34 (v ++ (34 ∷ u)) e′) (chars-seen t (p + 1) cs u (past t p (34 ∷ []) (v ++ (34 ∷ u)) e′))

@@ -3,32 +3,32 @@
 -- characters, a number's size, all values of an array and all members of an object in their order, none lost and none twice, at every depth. So a text that the
 -- scan finds whole has one tree (`scanned-tree`, `one-tree`), and all strings in it are UTF-8 (`all-utf8`).
 use mathlib.Core.Path.{_≡_, refl, sym, ap, ap₂, _∙_}
-use mathlib.Core.Bool.{Bool, true, false, cond}
-use mathlib.Core.List.{List, [], _∷_, _++_, map, append-assoc, append-nil}
+use mathlib.Core.Bool.{true}
+use mathlib.Core.List.{List, [], _∷_, _++_, map, append-nil}
 use Prim.Native.Nat.{ℕ, zero, suc, _+_}
 use native.Mathlib.Omega.{arith}
 use lib.ListN.{length, drop}
 use lib.Seq.{drop-at}
-use Rattle.json.specs.Json.{deepest, verdict, isSpace}
+use Rattle.json.specs.Json.{deepest, verdict}
 use Rattle.json.specs.declared.verdict.Scan.the-variants.{Whole}
 use Rattle.ground.specs.Bytes.{byteAt}
-use Rattle.view.specs.Values.{skipOf, valueStart, shapeOf, shapeAt, isValue, startsValue}
+use Rattle.view.specs.Values.{skipOf, valueStart, shapeOf, isValue, startsValue}
 use Rattle.view.specs.Ends.{endOf, isBlock, isDelimiter, atRest, modeAfter, depthAfter}
 use Rattle.view.specs.Elements.{firstElement, elements, elementsAt, valueFrom}
 use Rattle.view.specs.Members.{firstKey, keyFrom, keysAt, membersAt, memberOf as member-at}
 use Rattle.view.specs.declared.shape.Shape.{Shape}
 use Rattle.view.specs.declared.shape.Shape.the-variants.{Array, Object}
-use Rattle.grammar.specs.Grammar.{Byte, bytes, _·_, join, this, that, Optional, Many, ws, value-separator, member, object, array, value, false as false-word, null as null-word, true as true-word, JSON-text}
+use Rattle.grammar.specs.Grammar.{bytes, _·_, join, this, that, Optional, Many, value-separator, member, object, array, value, false as false-word, null as null-word, true as true-word, JSON-text}
 use Rattle.grammar.proofs.Theorems.{accepted-is-grammar}
 use Rattle.tree.specs.Tree.{Tree, wordOf, an-array, an-object, arrayOf, objectOf, treeOf, textTree, InUtf8}
 use Rattle.tree.specs.Seen.{shown, shownAs, shownAll, shownMembers}
 use Rattle.tree.proofs.Standing.{Stops, skip-over, stops-space}
 use Rattle.tree.proofs.Rests.{run-byte, run-values, run-members}
-use Rattle.tree.proofs.Tokens.{AllTokens, word-end}
+use Rattle.tree.proofs.Tokens.{word-end}
 use Rattle.tree.proofs.Frames.{Framed, framed}
 use Rattle.tree.proofs.Values.{Shows, shows-string, shows-word, shows-number}
-use Rattle.tree.proofs.Octets.{value-utf8}
 use Rattle.tree.proofs.Lists.{Sees, values-shown, members-shown}
+use Rattle.tree.proofs.Octets.{value-utf8}
 
 -- ---- the words
 module _ (t : List ℕ) (n p : ℕ) (u : List ℕ) (k : Stops u) where

@@ -2,9 +2,9 @@
 use mathlib.Core.Path.{_≡_, refl, sym, ap, _∙_}
 use mathlib.Core.Bool.{Bool, true, false, cond, not}
 use mathlib.Core.List.{List, [], _∷_, _++_, append-assoc}
-use Prim.Native.Nat.{ℕ, zero, suc, _+_, _-_, _*_, _≤_}
+use Prim.Native.Nat.{ℕ, suc, _+_, _-_, _*_, _≤_}
 use native.Mathlib.Omega.{arith}
-use lib.Dec.{ltb, leb, eqb}
+use lib.Dec.{leb}
 use lib.ListN.{length, drop, length-append}
 use borrow.Author.Tests.{ne-eqb, le-leb, leb-true}
 use Rattle.json.specs.Json.{isSpace, isDigit}
@@ -14,10 +14,9 @@ use Rattle.view.specs.Values.{count, shapeOf}
 use Rattle.view.specs.declared.shape.Shape.the-variants.{Number}
 use Rattle.view.specs.Ends.{isToken, isDelimiter, isBlock, literalEnd, endOf}
 use Rattle.view.specs.Size.{fitting, sizeFrom, sizeOf}
-use Rattle.view.specs.declared.sizes.Size.{Size}
-use Rattle.view.specs.declared.sizes.Size.the-variants.{Value, NoSize}
+use Rattle.view.specs.declared.sizes.Size.the-variants.{NoSize}
 use Rattle.viewed.proofs.Values.{byte-here}
-use Rattle.grammar.specs.Grammar.{Bytes, bytes, Byte, Range, within, _·_, join, _/_, this, that, Optional, absent, present, Many, none, more, DIGIT, int, number}
+use Rattle.grammar.specs.Grammar.{bytes, Byte, Range, within, _·_, join, _/_, this, that, Optional, absent, present, Many, none, more, DIGIT, int, number}
 use Rattle.tree.specs.Tree.{decimal, sizeIn}
 use Rattle.tree.proofs.Standing.{Stops}
 

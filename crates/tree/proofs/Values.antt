@@ -1,27 +1,26 @@
 -- Values that are no brackets, by the views. Assumes nothing.
 use mathlib.Core.Path.{_≡_, refl, sym, ap, ap₂, _∙_}
-use mathlib.Core.Bool.{Bool, true, false, cond}
-use mathlib.Core.List.{List, [], _∷_, _++_}
+use mathlib.Core.Bool.{true, false}
+use mathlib.Core.List.{List, _∷_, _++_}
 use Prim.Native.Nat.{ℕ, suc, _+_, _-_}
 use native.Mathlib.Omega.{arith}
-use lib.ListN.{length, drop, take}
+use lib.ListN.{length, drop}
 use lib.Seq.{take-at}
 use Rattle.json.specs.Json.{isSpace}
 use Rattle.ground.specs.Bytes.{byteAt, part}
-use Rattle.view.specs.Values.{count, skipOf, shapeOf, shapeAt, isValue, startsValue}
-use Rattle.view.specs.Ends.{isToken, isDelimiter, isBlock, endOf}
-use Rattle.view.specs.Size.{sizeOf}
+use Rattle.view.specs.Values.{skipOf, shapeOf, isValue, startsValue}
+use Rattle.view.specs.Ends.{endOf}
 use Rattle.view.specs.Strings.{stringAt}
 use Rattle.view.specs.declared.shape.Shape.{Shape}
 use Rattle.view.specs.declared.shape.Shape.the-variants.{Text, Number, Word}
 use Rattle.viewed.proofs.Values.{byte-here}
-use Rattle.grammar.specs.Grammar.{Bytes, bytes, join, number, string}
+use Rattle.grammar.specs.Grammar.{bytes, join, number, string}
 use Rattle.tree.specs.Characters.{stringOf}
 use Rattle.tree.specs.Tree.{Tree, a-word, a-number, a-text, sizeIn, wordOf, numberOf, textOf}
 use Rattle.tree.specs.Seen.{shown, shownAs, textAt}
 use Rattle.tree.proofs.Standing.{Stops, skip-none}
 use Rattle.tree.proofs.Strings.{string-seen}
-use Rattle.tree.proofs.Tokens.{number-leads, number-end, word-end, size-seen}
+use Rattle.tree.proofs.Tokens.{number-leads, number-end, size-seen}
 use Rattle.tree.proofs.Frames.{string-end}
 
 -- the bytes s at p are a value: past white space the views show the tree x, n values deep, and it ends where s does, but for white space

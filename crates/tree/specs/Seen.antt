@@ -3,7 +3,7 @@
 use Prim.Native.Nat.{ℕ, zero, suc, _-_}
 use mathlib.Core.List.{List, [], _∷_}
 use Rattle.ground.specs.Bytes.{part}
-use Rattle.view.specs.Values.{valueStart, shapeAt}
+use Rattle.view.specs.Values.{shapeAt}
 use Rattle.view.specs.Ends.{endOf}
 use Rattle.view.specs.Elements.{elements}
 use Rattle.view.specs.Strings.{stringAt}

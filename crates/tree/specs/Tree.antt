@@ -5,7 +5,7 @@ use mathlib.Core.Bool.{cond}
 use mathlib.Core.List.{List, [], _∷_}
 use lib.Dec.{ltb}
 use lib.ListN.{length}
-use Rattle.grammar.specs.Grammar.{Rule, _·_, join, _/_, this, that, Optional, absent, present, Many, none, more, value-separator, number, string, member, object, array, value, JSON-text}
+use Rattle.grammar.specs.Grammar.{Rule, _·_, join, this, that, Optional, absent, present, Many, none, more, value-separator, number, string, member, object, array, value, JSON-text}
 use Rattle.view.specs.declared.sizes.Size.{Size}
 use Rattle.view.specs.declared.sizes.Size.the-variants.{Value, NoSize}
 use Rattle.tree.specs.Characters.{stringOf, UTF8-octets}
