@@ -1,6 +1,6 @@
 -- The rule byte by byte is that of simple names, and of simple names joined by dots. Assumes nothing.
 use mathlib.Core.Path.{_≡_, refl, sym, ap, _∙_}
-use mathlib.Core.Bool.{Bool, true, false, not, cond, _&&_, and-assoc, and-eq-true-iff}
+use mathlib.Core.Bool.{Bool, true, false, not, cond, _&&_, and-assoc, and-eq-true-iff, false≢true}
 use mathlib.Core.List.{List, [], _∷_}
 use Prim.Native.Nat.{ℕ, _+_, _-_, _<_, _≤_}
 use native.Mathlib.Numerals.{add-one}
@@ -20,6 +20,10 @@ keeps dots first [] = not first
 keeps dots first (b ∷ bs) = mayStand dots first b && keeps dots (eqb b dot) bs
 
 -- a dot is no part of a simple name
+dot-letter : (b : ℕ) → eqb b dot ≡ true → isLetter b ≡ false
+unfolding isLetter isWithin
+dot-letter b e = rw (eqb-true b dot e)
+
 dot-later : (b : ℕ) → eqb b dot ≡ true → isLater b ≡ false
 unfolding isLater isLetter isDigit isWithin
 dot-later b e = rw (eqb-true b dot e)
@@ -27,6 +31,19 @@ dot-later b e = rw (eqb-true b dot e)
 dot-first : (b : ℕ) → eqb b dot ≡ true → isFirst b ≡ false
 unfolding isFirst isLetter isWithin
 dot-first b e = rw (eqb-true b dot e)
+
+-- a letter may stand anywhere
+pub letter-stands : (dots first : Bool) (b : ℕ) → isLetter b ≡ true → mayStand dots first b ≡ true
+unfolding mayStand isFirst isLater
+letter-stands dots first b h = go first (eqb b dot) refl
+  where
+    no-dot : eqb b dot ≡ true → ⊥
+    no-dot e = false≢true (sym (dot-letter b e) ∙ h)
+
+    go : (f t : Bool) → eqb b dot ≡ t → cond t (not f && dots) (cond f (isFirst b) (isLater b)) ≡ true
+    go f true e = absurd (no-dot e)
+    go true false e = rw h
+    go false false e = rw h
 
 -- ---- one simple name
 one-later : (s : List ℕ) → keeps false false s ≡ every isLater s

@@ -47,6 +47,9 @@ fn is_later(b: u8) -> bool
 pub fn may_stand(b: u8, first: bool, dots: bool) -> bool
     ensures { λ r. ⌜ r ≡ mayStand dots first b ⌝ }
 {
+    if is_letter(b) {
+        return true;
+    }
     if b == b'.' {
         if first {
             return false;
