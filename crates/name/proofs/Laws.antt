@@ -14,7 +14,7 @@ use borrow.Author.Tests.{eq-eqb, eqb-true, le-leb, lt-leb}
 use Rattle.name.specs.Name.{every, isEmpty, isOneOf, isWithin, isLetter, isDigit, isFirst, isLater, isSimple, dot, joined, parts, isDotted, startsWithDot, isName, isNamespace, hasDot, fullName, lastOf, lastPart, namespacePart, isReserved}
 use Rattle.ground.specs.Bytes.{same, store}
 use Rattle.ground.proofs.Laws.{length-store, store-fits}
-use Rattle.name.specs.Full.{isShort, answerOf, bufferAfter}
+use Rattle.name.specs.Full.{keptLimit, isShort, answerOf, bufferAfter}
 use Rattle.name.specs.declared.qualify.Full.{Full}
 use Rattle.name.specs.declared.qualify.Full.the-variants.{Fits, TooLong}
 use Rattle.name.proofs.Parts.{never, parted, parts-dot, parts-plain, joined-parts, last-snoc, front-snoc}
@@ -369,53 +369,53 @@ length-full namespace s = go (not (hasDot s) && not (isEmpty namespace)) (starts
 -- ---- the answer and the buffer, for a full name f and a buffer m
 
 module _ (f : List ℕ) where
-  -- up to 255 bytes the answer is the length
-  pub answer-short : length f ≤ 255 → answerOf f ≡ Fits (length f)
+  -- up to the limit the answer is the length
+  pub answer-short : length f ≤ keptLimit → answerOf f ≡ Fits (length f)
   unfolding answerOf isShort
-  answer-short h = rw (le-leb (length f) 255 h)
+  answer-short h = rw (le-leb (length f) keptLimit h)
 
   -- above it is that it is too long
-  pub answer-long : 255 < length f → answerOf f ≡ TooLong
+  pub answer-long : keptLimit < length f → answerOf f ≡ TooLong
   unfolding answerOf isShort
-  answer-long h = rw (lt-leb (length f) 255 h)
+  answer-long h = rw (lt-leb (length f) keptLimit h)
 
-  -- a length that is answered is that of the full name, and at most 255
-  pub fits-length : (n : ℕ) → answerOf f ≡ Fits n → (n ≡ length f) × (length f ≤ 255)
-  fits-length n e = go (decLt 255 (length f))
+  -- a length that is answered is that of the full name, and within the limit
+  pub fits-length : (n : ℕ) → answerOf f ≡ Fits n → (n ≡ length f) × (length f ≤ keptLimit)
+  fits-length n e = go (decLt keptLimit (length f))
     where
-      go : Dec (255 < length f) → (n ≡ length f) × (length f ≤ 255)
+      go : Dec (keptLimit < length f) → (n ≡ length f) × (length f ≤ keptLimit)
       go (yes l) = let w = answer-long l in let z : _≡_ {A = ℕ} 0 1 = cc in absurd (omega arith)
       go (no g) = let w = answer-short (omega arith) in let z : n ≡ length f = cc in (z, omega arith)
 
   -- where none is, the full name is longer
-  pub too-long : answerOf f ≡ TooLong → 255 < length f
-  too-long e = go (decLt 255 (length f))
+  pub too-long : answerOf f ≡ TooLong → keptLimit < length f
+  too-long e = go (decLt keptLimit (length f))
     where
-      go : Dec (255 < length f) → 255 < length f
+      go : Dec (keptLimit < length f) → keptLimit < length f
       go (yes l) = l
       go (no g) = let w = answer-short (omega arith) in let z : _≡_ {A = ℕ} 0 1 = cc in absurd (omega arith)
 
   module _ (m : List ℕ) where
-    -- up to 255 bytes the full name is stored
-    pub buffer-short : length f ≤ 255 → bufferAfter m f ≡ store m 0 f
+    -- up to the limit the full name is stored
+    pub buffer-short : length f ≤ keptLimit → bufferAfter m f ≡ store m 0 f
     unfolding bufferAfter isShort
-    buffer-short h = rw (le-leb (length f) 255 h)
+    buffer-short h = rw (le-leb (length f) keptLimit h)
 
     -- above the buffer stays as it was
-    pub buffer-long : 255 < length f → bufferAfter m f ≡ m
+    pub buffer-long : keptLimit < length f → bufferAfter m f ≡ m
     unfolding bufferAfter isShort
-    buffer-long h = rw (lt-leb (length f) 255 h)
+    buffer-long h = rw (lt-leb (length f) keptLimit h)
 
     -- the buffer keeps its length
     pub buffer-length : length (bufferAfter m f) ≡ length m
-    buffer-length = go (decLt 255 (length f))
+    buffer-length = go (decLt keptLimit (length f))
       where
-        go : Dec (255 < length f) → length (bufferAfter m f) ≡ length m
+        go : Dec (keptLimit < length f) → length (bufferAfter m f) ≡ length m
         go (yes l) = ap length (buffer-long l)
         go (no g) = ap length (buffer-short (omega arith)) ∙ length-store m 0 f
 
 -- after `full_name` has answered `Fits(n)`: r is the answer, m the buffer before and m′ the buffer afterwards
-module _ (f m m′ : List ℕ) (r : Full) (a : r ≡ answerOf f) (b : m′ ≡ bufferAfter m f) (n : ℕ) (e : r ≡ Fits n) (h : length m ≡ 255) where
+module _ (f m m′ : List ℕ) (r : Full) (a : r ≡ answerOf f) (b : m′ ≡ bufferAfter m f) (n : ℕ) (e : r ≡ Fits n) (h : length m ≡ keptLimit) where
   -- `&out[0..n]` can be lent
   pub fits-room : n ≤ length m′
   fits-room = let z = fits-length f n (sym a ∙ e) in let w = ap length b ∙ buffer-length f m in omega arith

@@ -8,9 +8,12 @@ use Rattle.ground.specs.Bytes.{store}
 use Rattle.name.specs.declared.qualify.Full.{Full}
 use Rattle.name.specs.declared.qualify.Full.the-variants.{Fits, TooLong}
 
--- a kept string is of at most 255 bytes: 01's number 9 otherwise
+-- a kept string has at most so many bytes: 01's number 9 otherwise
+abbrev pub keptLimit : ℕ
+keptLimit = 255
+
 unfoldable pub isShort : List ℕ → Bool
-isShort s = leb (length s) 255
+isShort s = leb (length s) keptLimit
 
 unfoldable pub answerOf : List ℕ → Full
 answerOf full = cond (isShort full) (Fits (length full)) TooLong

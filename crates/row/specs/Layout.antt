@@ -1,15 +1,7 @@
--- Where things lie in a set's memory (docs/LAYOUT.md), and document 01's limits.
+-- Where things lie in a set's memory (docs/LAYOUT.md), by document 01's limits on its counts.
 -- Assumes nothing.
 use Prim.Native.Nat.{ℕ, _+_, _*_}
-
-abbrev pub declarationLimit : ℕ
-declarationLimit = 32
-
-abbrev pub rowLimit : ℕ
-rowLimit = 1024
-
-abbrev pub stringLimit : ℕ
-stringLimit = 16384
+pub use Rattle.answer.specs.Limits.{declarationLimit, rowLimit, stringLimit}
 
 -- the header: the number of declarations, then how many rows each place has, in two bytes each
 abbrev pub headerSize : ℕ

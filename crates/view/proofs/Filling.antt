@@ -12,6 +12,7 @@ use lib.Seq.{set-out, getD-set-same, getD-set-other}
 use borrow.Author.Tests.{eqb-true, eqb-false}
 use Rattle.ground.specs.Bytes.{byteAt}
 use Rattle.ground.proofs.Laws.{byte-at}
+use Rattle.json.specs.Json.{deepest}
 use Rattle.view.specs.Ends.{depthAfter, closingOf, endOf}
 use Rattle.view.specs.Strings.{isStop, Plainly}
 use Rattle.view.specs.Known.{endIn, Literal, Known, Open, Stack}
@@ -88,8 +89,8 @@ module _ (b x : ℕ) where
       go false false false false i j = refl
 
 -- ---- the brackets that are open
-pub stack-start : (t : List ℕ) → Stack t (replicate 64 0) 0 0
-stack-start t = record { room = length-replicate {A = ℕ} 64 0; few = omega arith; all-open = λ i (l : i < 0) m. absurd (omega arith) }
+pub stack-start : (t : List ℕ) → Stack t (replicate deepest 0) 0 0
+stack-start t = record { room = length-replicate {A = ℕ} deepest 0; few = omega arith; all-open = λ i (l : i < 0) m. absurd (omega arith) }
 
 module _ {t kept : List ℕ} {d p : ℕ} (s : Stack t kept d p) (h : p < length t) where
   -- one byte on, or past a string, with as many open
@@ -121,10 +122,10 @@ module _ {t kept : List ℕ} {d p : ℕ} (s : Stack t kept d p) (h : p < length 
         record {
           room = ap length e ∙ length-set kept d p ∙ m;
           few = omega arith;
-          all-open = λ i (a : i < d + 1) (b : i < 64). go i a b (decLt i d);
+          all-open = λ i (a : i < d + 1) (b : i < deepest). go i a b (decLt i d);
         }
       where
-        go : (i : ℕ) → i < d + 1 → i < 64 → Dec (i < d) → Open t (getD after i 0) (d + 1 - i) (p + 1)
+        go : (i : ℕ) → i < d + 1 → i < deepest → Dec (i < d) → Open t (getD after i 0) (d + 1 - i) (p + 1)
         go i a b (yes c) =
             let o = s .all-open i c b in
             let z : d + 1 - i ≡ d - i + 1 = omega arith in
@@ -150,7 +151,7 @@ module _ {t kept : List ℕ} {d p : ℕ} (s : Stack t kept d p) (h : p < length 
                 rw z (record { within = o .within; no-string = o .no-string; closes = bracket-more t (d - i) p h n (d - i - 1) (depth-close (getD t p 0) (d - i) f) (λ (q : d - i - 1 ≡ 0). omega arith) ∙ o .closes });
           }
 
-      pub close-noted : {ends after : List ℕ} {a : ℕ} → Known t ends → 0 < d → d - 1 < 64 → a ≡ getD kept (d - 1) 0 → after ≡ set ends a (p + 1) → Known t after
+      pub close-noted : {ends after : List ℕ} {a : ℕ} → Known t ends → 0 < d → d - 1 < deepest → a ≡ getD kept (d - 1) 0 → after ≡ set ends a (p + 1) → Known t after
       close-noted k a b g e =
           let o = s .all-open (d - 1) (omega arith) b in
           let z : d - (d - 1) ≡ 1 = omega arith in

@@ -5,6 +5,7 @@ use mathlib.Core.Path.{_≡_}
 use mathlib.Core.List.{List}
 use lib.ListN.{length, getD}
 use Rattle.ground.specs.Bytes.{byteAt, part}
+use Rattle.json.specs.Json.{deepest}
 use Rattle.view.specs.Ends.{closingOf, endOf}
 use Rattle.view.specs.Strings.{stringAt}
 
@@ -33,6 +34,6 @@ pub record Open (t : List ℕ) (a d p : ℕ) : Type 0 where
 
 -- before p, outside of strings: d brackets are open, and the first 64 of them are kept
 pub record Stack (t kept : List ℕ) (d p : ℕ) : Type 0 where
-  pub room : length kept ≡ 64
+  pub room : length kept ≡ deepest
   pub few : d ≤ p
-  pub all-open : (i : ℕ) → i < d → i < 64 → Open t (getD kept i 0) (d - i) p
+  pub all-open : (i : ℕ) → i < d → i < deepest → Open t (getD kept i 0) (d - i) p

@@ -3,11 +3,13 @@ use super::ends::is_bracket;
 use super::ends::past_escapes;
 use super::strings::plain_end;
 use ground::byte_at;
+use json::Scan;
 ghost use mathlib.Core.Path.{_≡_};
 ghost use mathlib.Core.Bool.{_||_};
 ghost use Prim.Native.Nat.{_+_, _<_, _≤_};
 ghost use lib.Dec.{eqb};
 ghost use lib.ListN.{length, getD, set};
+ghost use Rattle.json.specs.Json.{longest, deepest};
 ghost use Rattle.view.specs.Ends.{closingOf};
 ghost use Rattle.view.specs.Known.{endIn, Known, Stack};
 
@@ -39,7 +41,7 @@ fn note(ends: &mut [u16], at: usize, end: usize)
 
 // Past the string at `at`, which is noted where its bytes stand for themselves.
 fn note_string(text: &[u8], at: usize, ends: &mut [u16]) -> usize
-    requires { ⌜ (length (now text) ≤ 32768) × (at < length (now text)) × (getD (now text) at 0 ≡ 34) × Known (now text) (now ends) ⌝ }
+    requires { ⌜ (length (now text) ≤ longest) × (at < length (now text)) × (getD (now text) at 0 ≡ 34) × Known (now text) (now ends) ⌝ }
     ensures { λ r. ⌜ (r ≡ closingOf (now (text .entry)) 1 0 (at + 1)) × Known (now (text .entry)) (now (ends .exit)) ⌝ }
 {
     let e = plain_end(text, at + 1);
@@ -51,11 +53,11 @@ fn note_string(text: &[u8], at: usize, ends: &mut [u16]) -> usize
 }
 
 // Keeps the place of a bracket that opens.
-fn keep(kept: &mut [u16; 64], depth: usize, at: usize)
-    requires { ⌜ (length (now kept) ≡ 64) × (at < 65536) ⌝ }
+fn keep(kept: &mut [u16; Scan::NESTING], depth: usize, at: usize)
+    requires { ⌜ (length (now kept) ≡ deepest) × (at < 65536) ⌝ }
     ensures { λ _. ⌜ now (kept .exit) ≡ set (now (kept .entry)) depth at ⌝ }
 {
-    if depth < 64 {
+    if depth < Scan::NESTING {
         kept[depth] = at as u16;
     }
 }
@@ -74,11 +76,11 @@ fn is_closing(b: u8) -> bool
 fn note_bracket(
     text: &[u8],
     at: usize,
-    kept: &mut [u16; 64],
+    kept: &mut [u16; Scan::NESTING],
     depth: usize,
     ends: &mut [u16],
 ) -> usize
-    requires { ⌜ (length (now text) ≤ 32768) × (at < length (now text)) × (getD (now text) at 0 ≡ 34 → ⊥) × Stack (now text) (now kept) depth at × Known (now text) (now ends) ⌝ }
+    requires { ⌜ (length (now text) ≤ longest) × (at < length (now text)) × (getD (now text) at 0 ≡ 34 → ⊥) × Stack (now text) (now kept) depth at × Known (now text) (now ends) ⌝ }
     ensures { λ r. ⌜ Stack (now (text .entry)) (now (kept .exit)) r (at + 1) × Known (now (text .entry)) (now (ends .exit)) ⌝ }
 {
     let b = text[at];
@@ -93,7 +95,7 @@ fn note_bracket(
         return 0;
     }
     let last = depth - 1;
-    if last < 64 {
+    if last < Scan::NESTING {
         note(ends, wide(kept[last]), at + 1);
     }
     last
@@ -101,10 +103,10 @@ fn note_bracket(
 
 // Fills the table for a text. Most bytes outside of strings stand below the brackets.
 pub fn find_ends(text: &[u8], ends: &mut [u16])
-    requires { ⌜ (length (now text) ≤ 32768) × Known (now text) (now ends) ⌝ }
+    requires { ⌜ (length (now text) ≤ longest) × Known (now text) (now ends) ⌝ }
     ensures { λ _. ⌜ Known (now (text .entry)) (now (ends .exit)) ⌝ }
 {
-    let mut kept: [u16; 64] = [0; 64];
+    let mut kept: [u16; Scan::NESTING] = [0; Scan::NESTING];
     let mut depth: usize = 0;
     let mut p: usize = 0;
     while p < text.len() {

@@ -8,7 +8,7 @@ use lib.ListN.{length, take, drop, set, length-append}
 use Rattle.ground.specs.Bytes.{store}
 use Rattle.ground.proofs.Laws.{store-cons, store-then}
 use Rattle.name.specs.Name.{dot, hasDot, startsWithDot, fullName}
-use Rattle.name.specs.Full.{answerOf, bufferAfter}
+use Rattle.name.specs.Full.{keptLimit, answerOf, bufferAfter}
 use Rattle.name.specs.declared.qualify.Full.{Full}
 use Rattle.name.specs.declared.qualify.Full.the-variants.{Fits, TooLong}
 use Rattle.name.proofs.Laws.{answer-short, answer-long, buffer-short, buffer-long, full-lead, full-none, full-written, full-within, empty-none, empty-some}
@@ -18,10 +18,10 @@ use Rattle.name.proofs.Parts.{lent-tail}
 abbrev pub Kept : List ℕ → List ℕ → List ℕ → Full → Type 0
 Kept f m m′ r = (r ≡ answerOf f) × (m′ ≡ bufferAfter m f)
 
-pub kept-long : (f m : List ℕ) → 255 < length f → Kept f m m TooLong
+pub kept-long : (f m : List ℕ) → keptLimit < length f → Kept f m m TooLong
 kept-long f m h = (sym (answer-long f h), sym (buffer-long f m h))
 
-pub kept-short : (f m m′ : List ℕ) → length f ≤ 255 → m′ ≡ store m 0 f → Kept f m m′ (Fits (length f))
+pub kept-short : (f m m′ : List ℕ) → length f ≤ keptLimit → m′ ≡ store m 0 f → Kept f m m′ (Fits (length f))
 kept-short f m m′ h e = (sym (answer-short f h), e ∙ sym (buffer-short f m h))
 
 -- ---- namespace, dot, name
@@ -30,10 +30,10 @@ module _ (namespace s : List ℕ) where
   length-within = length-append namespace (dot ∷ s) ∙ omega arith
 
   module _ (m : List ℕ) where
-    pub within-long : 255 < length namespace + 1 + length s → Kept (namespace ++ (dot ∷ s)) m m TooLong
+    pub within-long : keptLimit < length namespace + 1 + length s → Kept (namespace ++ (dot ∷ s)) m m TooLong
     within-long h = kept-long (namespace ++ (dot ∷ s)) m (rw length-within h)
 
-    pub within-short : (m₁ m₂ : List ℕ) → length namespace + 1 + length s ≤ 255
+    pub within-short : (m₁ m₂ : List ℕ) → length namespace + 1 + length s ≤ keptLimit
         → m₁ ≡ store m 0 namespace → m₂ ≡ store (set m₁ (length namespace) dot) (length namespace + 1) s
         → Kept (namespace ++ (dot ∷ s)) m m₂ (Fits (length namespace + 1 + length s))
     within-short m₁ m₂ h p q =

@@ -6,6 +6,7 @@ use lib.ListN.{length}
 use Rattle.name.proofs.qualify.Kept.{within-long, within-short}
 use Rattle.name.proofs.qualify.keep_within.Statement.{statement}
 use Rattle.name.proofs.qualify.keep_within.Tie as tie
+use Rattle.name.specs.Full.{keptLimit}
 
 add-n : tie.Need-add-n
 add-n c = search needs
@@ -16,7 +17,7 @@ add-n-2 c = search needs
 returns : tie.Need-returns
 returns c =
     let a = c .before .before .before .args in
-    let h : 255 < length (a .namespace .now) + 1 + length (a .s .now) = omega arith in
+    let h : keptLimit < length (a .namespace .now) + 1 + length (a .s .now) = omega arith in
     within-long (a .namespace .now) (a .s .now) _ h
 
 copy-requires : tie.Need-copy-requires
@@ -34,7 +35,7 @@ copy-requires-2 c κs = search needs
 returns-2 : tie.Need-returns-2
 returns-2 c =
     let a = c .before .before .before .before .before .before .before .args in
-    let h : length (a .namespace .now) + 1 + length (a .s .now) ≤ 255 = omega arith in
+    let h : length (a .namespace .now) + 1 + length (a .s .now) ≤ keptLimit = omega arith in
     within-short (a .namespace .now) (a .s .now) _ _ _ h (c .before .before .copy .ensures) (c .copy2 .ensures)
 
 pub keep-within-spec : {M : Type 1} → statement M
