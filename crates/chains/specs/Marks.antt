@@ -5,6 +5,7 @@ use mathlib.Core.Bool.{cond}
 use mathlib.Core.List.{List, [], _∷_}
 use lib.Dec.{ltb}
 use lib.ListN.{length, getD}
+use Rattle.chains.specs.Chains.{slots}
 
 -- two bytes from a place on, and eight, lowest first
 abbrev pub twoAt : List ℕ → ℕ → ℕ
@@ -20,9 +21,9 @@ shortFrom h (b ∷ bs) = shortFrom (h % 72057594037927936 * 256 + b) bs
 
 -- a number over as many as a table has slots, by two stretches of the bits of two products
 unfoldable pub spread : ℕ → ℕ
-spread n = n % 4294967296 * 2654435761 / 2097152 % 2048 + n / 4294967296 * 2246822519 / 2097152 % 2048
+spread n = n % 4294967296 * 2654435761 / 2097152 % slots + n / 4294967296 * 2246822519 / 2097152 % slots
 
 unfoldable pub markOf : List ℕ → ℕ
 markOf s =
-    length s % 2048
+    length s % slots
     + cond (ltb (length s) 8) (spread (shortFrom 0 s)) (spread (eightAt s 0) + spread (eightAt s (length s - 8)))

@@ -1,10 +1,13 @@
 // Chains of numbers by slots, in two lent tables: the numbers that were entered under a slot, the last one first. What is on a chain
 // is looked at, so that no mark and no slot is trusted with anything; what was entered is on the chain of its slot.
 ghost use mathlib.Core.Path.{_≡_};
-ghost use Prim.Native.Nat.{_+_, _<_, _≤_};
+ghost use Prim.Native.Nat.{_+_, _*_, _<_, _≤_};
 ghost use lib.ListN.{length, getD, set};
 ghost use Rattle.chains.specs.Marks.{twoAt, eightAt, shortFrom, spread, markOf};
 ghost use Rattle.chains.specs.Chains.{slots, slotOf};
+
+// A table has so many slots.
+pub const SLOTS: usize = 2048;
 
 fn wide(b: u8) -> usize
     ensures { λ r. ⌜ (r ≡ b) × (r < 256) ⌝ }
@@ -47,10 +50,10 @@ fn short(s: &[u8]) -> usize
 }
 
 fn spread(n: usize) -> usize
-    ensures { λ r. ⌜ (r ≡ spread n) × (r < 4096) ⌝ }
+    ensures { λ r. ⌜ (r ≡ spread n) × (r < 2 * slots) ⌝ }
 {
-    let low = n % 4294967296 * 2654435761 / 2097152 % 2048;
-    let high = n / 4294967296 * 2246822519 / 2097152 % 2048;
+    let low = n % 4294967296 * 2654435761 / 2097152 % SLOTS;
+    let high = n / 4294967296 * 2246822519 / 2097152 % SLOTS;
     low + high
 }
 
@@ -60,16 +63,16 @@ pub fn mark(s: &[u8]) -> usize
 {
     let n = s.len();
     if n < 8 {
-        return n % 2048 + spread(short(s));
+        return n % SLOTS + spread(short(s));
     }
-    n % 2048 + (spread(eight(s, 0)) + spread(eight(s, n - 8)))
+    n % SLOTS + (spread(eight(s, 0)) + spread(eight(s, n - 8)))
 }
 
 // The slot of a mark; those of different owners lie apart.
 pub fn slot(mark: usize, owner: usize) -> usize
     ensures { λ r. ⌜ (r ≡ slotOf mark owner) × (r < slots) ⌝ }
 {
-    (mark % 2048 + owner % 2048 * 37) % 2048
+    (mark % SLOTS + owner % SLOTS * 37) % SLOTS
 }
 
 fn longer(e: u16) -> usize

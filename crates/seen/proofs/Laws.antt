@@ -17,26 +17,26 @@ use Rattle.name.proofs.Laws.{one-of-append}
 use Rattle.view.specs.Marks.{markOf}
 use Rattle.seen.specs.declared.Found.{Found}
 use Rattle.seen.specs.declared.Found.the-variants.{Marked, Free}
-use Rattle.seen.specs.Seen.{Sized, placeIn, nextOf, from, foundIn, isThere, isMarked, put, entered, Holds}
+use Rattle.seen.specs.Seen.{span, Sized, placeIn, nextOf, from, foundIn, isThere, isMarked, put, entered, Holds}
 
-pub place-product : (size x : ℕ) → 0 < size → x < 4294967296 → x * size < 4294967296 * size
+pub place-product : (size x : ℕ) → 0 < size → x < span → x * size < span * size
 place-product size x l h = mul-lt-mul-of-pos-right h l
 
-pub place-below : (size x : ℕ) → 0 < size → x < 4294967296 → placeIn size x < size
+pub place-below : (size x : ℕ) → 0 < size → x < span → placeIn size x < size
 unfolding placeIn
 place-below size x l h = let z = place-product size x l h in omega arith
 
-pub next-fits : (size m : ℕ) → (m / 65536 % 4096 * 2 + 1) * (4294967296 / size) ≤ 8191 * 4294967296
+pub next-fits : (size m : ℕ) → (m / 65536 % 4096 * 2 + 1) * (span / size) ≤ 8191 * span
 next-fits size m =
     let a : m / 65536 % 4096 * 2 + 1 ≤ 8191 = omega arith in
-    mul-le-mul a (div-le-self 4294967296 size)
+    mul-le-mul a (div-le-self span size)
 
 -- ---- one walk over the places of a mark that is not 0
 
 module _ (t : List ℕ) (m : ℕ) where
   -- an empty place, of the table
   module _ (l : 0 < length t) (i : ℕ) where
-    free-place : (n x : ℕ) → x < 4294967296 → from t m n x ≡ Free i → (getD t i 0 ≡ 0) × (i < length t)
+    free-place : (n x : ℕ) → x < span → from t m n x ≡ Free i → (getD t i 0 ≡ 0) × (i < length t)
     unfolding from
     free-place zero x h e = let z : true ≡ false = ap isThere e in never (sym z)
     free-place (suc n) x h e = go (eqb (getD t at 0) m) refl (eqb (getD t at 0) 0) refl (free-place n (nextOf (length t) m x) (omega arith))
@@ -116,16 +116,16 @@ sized-as s e = let a = s .some in let b = s .most in record { some = omega arith
 
 module _ (t : List ℕ) (m : ℕ) where
   -- an empty place is found for marks alone that are not 0, and by the walk
-  free-found : (i : ℕ) → foundIn t m ≡ Free i → (m ≡ 0 → ⊥) × (from t m (length t) (m / 4294967296 % 4294967296) ≡ Free i)
+  free-found : (i : ℕ) → foundIn t m ≡ Free i → (m ≡ 0 → ⊥) × (from t m (length t) (m / span % span) ≡ Free i)
   unfolding foundIn
   free-found i e = go (eqb m 0) refl
     where
-      go : (x : Bool) → eqb m 0 ≡ x → (m ≡ 0 → ⊥) × (from t m (length t) (m / 4294967296 % 4294967296) ≡ Free i)
+      go : (x : Bool) → eqb m 0 ≡ x → (m ≡ 0 → ⊥) × (from t m (length t) (m / span % span) ≡ Free i)
       go true p = let z : Marked ≡ Free i = rw p at e in let w : true ≡ false = ap isThere z in never (sym w)
       go false p = (eqb-false m 0 p, rw p at e)
 
   free-is : 0 < length t → (i : ℕ) → foundIn t m ≡ Free i → (getD t i 0 ≡ 0) × (i < length t)
-  free-is l i e = free-place t m l i (length t) (m / 4294967296 % 4294967296) (omega arith) (free-found i e .1)
+  free-is l i e = free-place t m l i (length t) (m / span % span) (omega arith) (free-found i e .1)
 
   pub free-below : 0 < length t → {f : Found} → f ≡ foundIn t m → {i : ℕ} → f ≡ Free i → i < length t
   free-below l e {i} g = free-is l i (sym e ∙ g) .1
@@ -134,7 +134,7 @@ module _ (t : List ℕ) (m : ℕ) where
   filled-stays : (n i : ℕ) → isMarked t n ≡ true → getD t i 0 ≡ 0 → (x : Bool) → eqb n 0 ≡ x → isMarked (set t i m) n ≡ true
   unfolding isMarked foundIn
   filled-stays n i e z true p = rw p
-  filled-stays n i e z false p = rw (p, length-set) (there-stays t n (eqb-false n 0 p) i m z (length t) (n / 4294967296 % 4294967296) (rw p at e))
+  filled-stays n i e z false p = rw (p, length-set) (there-stays t n (eqb-false n 0 p) i m z (length t) (n / span % span) (rw p at e))
 
   marked-stays : (n : ℕ) → 0 < length t → isMarked t n ≡ true → isMarked (entered t m) n ≡ true
   unfolding entered
@@ -153,7 +153,7 @@ module _ (t : List ℕ) (m : ℕ) where
       go Marked p = ap isThere p
       go (Free i) p =
           let q = free-found i p in
-          rw (ne-eqb m 0 (q .0), length-set) (filled-there t m i (free-is l i p .1) (length t) (m / 4294967296 % 4294967296) (q .1))
+          rw (ne-eqb m 0 (q .0), length-set) (filled-there t m i (free-is l i p .1) (length t) (m / span % span) (q .1))
 
 -- ---- strings
 

@@ -9,14 +9,14 @@ use lib.ListN.{length, getD, set}
 use borrow.Author.Tests.{eq-eqb, ne-eqb}
 use Rattle.seen.specs.declared.Found.{Found}
 use Rattle.seen.specs.declared.Found.the-variants.{Marked, Free}
-use Rattle.seen.specs.Seen.{placeIn, nextOf, from, foundIn, isMarked, entered}
+use Rattle.seen.specs.Seen.{span, placeIn, nextOf, from, foundIn, isMarked, entered}
 
 pub found-zero : (t : List ℕ) (m : ℕ) → m ≡ 0 → Marked ≡ foundIn t m
 unfolding foundIn
 found-zero t m e = rw (eq-eqb m 0 e)
 
 -- what is found from a place on is what is found
-pub found-start : (t : List ℕ) (m : ℕ) → (m ≡ 0 → ⊥) → from t m (length t) (m / 4294967296 % 4294967296) ≡ foundIn t m
+pub found-start : (t : List ℕ) (m : ℕ) → (m ≡ 0 → ⊥) → from t m (length t) (m / span % span) ≡ foundIn t m
 unfolding foundIn
 found-start t m n = rw (ne-eqb m 0 n)
 

@@ -11,18 +11,22 @@ use Rattle.view.specs.Marks.{markOf}
 use Rattle.seen.specs.declared.Found.{Found}
 use Rattle.seen.specs.declared.Found.the-variants.{Marked, Free}
 
+-- a mark is looked for at the places of numbers below this, 2^32
+abbrev pub span : ℕ
+span = 4294967296
+
 -- memory that may be a table
 pub record Sized (table : List ℕ) : Type 0 where
   pub some : 0 < length table
-  pub most : length table < 4294967296
+  pub most : length table < span
 
--- the place of a number below 2^32 in a table of so many places
+-- the place of a number below `span` in a table of so many places
 unfoldable pub placeIn : ℕ → ℕ → ℕ
-placeIn size x = x * size / 4294967296
+placeIn size x = x * size / span
 
 -- the next number lies at the mark's own distance, an odd number of places: where their number is a power of two all are passed before one is met again
 abbrev pub nextOf : ℕ → ℕ → ℕ → ℕ
-nextOf size m x = (x + (m / 65536 % 4096 * 2 + 1) * (4294967296 / size)) % 4294967296
+nextOf size m x = (x + (m / 65536 % 4096 * 2 + 1) * (span / size)) % span
 
 -- from a number on: the mark, or an empty place. After n places it counts as marked
 unfoldable pub from : List ℕ → ℕ → ℕ → ℕ → Found
@@ -34,7 +38,7 @@ from table m (suc n) x =
 
 -- 0 is an empty place, and so no mark that could be entered: it counts as marked
 unfoldable pub foundIn : List ℕ → ℕ → Found
-foundIn table m = let found = from table m (length table) (m / 4294967296 % 4294967296) in cond (eqb m 0) Marked found
+foundIn table m = let found = from table m (length table) (m / span % span) in cond (eqb m 0) Marked found
 
 abbrev pub isThere : Found → Bool
 isThere Marked = true

@@ -1,9 +1,23 @@
 // A table of the marks of strings, in lent memory of any size, zeros at first. A string that is not marked is surely new; one that is has to be
 // looked for.
+use json::Scan;
 ghost use mathlib.Core.Path.{_≡_};
 ghost use Prim.Native.Nat.{_<_, _≤_};
 ghost use lib.ListN.{length};
-ghost use Rattle.seen.specs.Seen.{Sized, placeIn, nextOf, foundIn, isMarked, entered};
+ghost use Rattle.seen.specs.Seen.{span, Sized, placeIn, nextOf, foundIn, isMarked, entered};
+
+// A mark is looked for at the places of numbers below this.
+const SPAN: u64 = 4294967296;
+
+// A name takes four bytes of a text at least, its quotes and a comma with it: a table has a place for every four bytes.
+pub const SHARE: usize = 4;
+
+// Below so many bytes of text a table is emptied in part.
+const FEW: usize = 1024;
+
+const SOME: usize = 4096;
+
+const MANY: usize = 8192;
 
 // Where a mark is looked for: it is there, or an empty place is.
 pub enum Found {
@@ -19,19 +33,19 @@ fn wide(n: usize) -> u64
 
 // The place of a number in a table of so many places.
 fn place(size: usize, x: u64) -> usize
-    requires { ⌜ (0 < size) × (size < 4294967296) × (x < 4294967296) ⌝ }
+    requires { ⌜ (0 < size) × (size < span) × (x < span) ⌝ }
     ensures { λ r. ⌜ (r ≡ placeIn size x) × (r < size) ⌝ }
 {
-    (x * wide(size) / 4294967296) as usize
+    (x * wide(size) / SPAN) as usize
 }
 
 // The next number, an odd number of places on.
 fn next(size: usize, mark: u64, x: u64) -> u64
-    requires { ⌜ (0 < size) × (x < 4294967296) ⌝ }
-    ensures { λ r. ⌜ (r ≡ nextOf size mark x) × (r < 4294967296) ⌝ }
+    requires { ⌜ (0 < size) × (x < span) ⌝ }
+    ensures { λ r. ⌜ (r ≡ nextOf size mark x) × (r < span) ⌝ }
 {
-    let distance = (mark / 65536 % 4096 * 2 + 1) * (4294967296 / wide(size));
-    (x + distance) % 4294967296
+    let distance = (mark / 65536 % 4096 * 2 + 1) * (SPAN / wide(size));
+    (x + distance) % SPAN
 }
 
 fn find(table: &[u64], mark: u64) -> Found
@@ -41,7 +55,7 @@ fn find(table: &[u64], mark: u64) -> Found
     if mark == 0 {
         return Found::Marked;
     }
-    let mut x = mark / 4294967296 % 4294967296;
+    let mut x = mark / SPAN % SPAN;
     let mut left = table.len();
     while 0 < left {
         let at = place(table.len(), x);
@@ -76,16 +90,16 @@ pub fn enter(table: &mut [u64], mark: u64) -> bool
 fn needed(bytes: usize) -> usize
     ensures { λ r. ⌜ 0 < r ⌝ }
 {
-    if bytes < 1024 {
-        return 256;
+    if bytes < FEW {
+        return FEW / SHARE;
     }
-    if bytes < 4096 {
-        return 1024;
+    if bytes < SOME {
+        return SOME / SHARE;
     }
-    if bytes < 8192 {
-        return 2048;
+    if bytes < MANY {
+        return MANY / SHARE;
     }
-    8192
+    Scan::TEXT / SHARE
 }
 
 // The same, but no more than there are.

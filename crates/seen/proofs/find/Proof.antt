@@ -2,7 +2,7 @@
 -- Assumes nothing.
 use mathlib.Core.Path.{_≡_}
 use Prim.Native.Nat.{_<_}
-use Rattle.seen.specs.Seen.{from, foundIn}
+use Rattle.seen.specs.Seen.{span, from, foundIn}
 use Rattle.seen.proofs.Turns.{found-zero, found-start, found-end, found-mark, found-free, found-on}
 use borrow.Author.Needs.{needs}
 use native.Mathlib.Omega.{arith}
@@ -10,7 +10,7 @@ use Rattle.seen.proofs.find.Statement.{statement}
 use Rattle.seen.proofs.find.Tie as tie
 
 abbrev Inv-loop : tie.InvT-loop
-Inv-loop table mark x₀ left₀ x left = (x < 4294967296) × (from table mark left x ≡ foundIn table mark)
+Inv-loop table mark x₀ left₀ x left = (x < span) × (from table mark left x ≡ foundIn table mark)
 
 abbrev μ-loop : tie.MeasureT-loop
 μ-loop table mark x₀ left₀ x left = left
