@@ -11,7 +11,7 @@ use borrow.Author.Tests.{leb-true, not-true}
 use Rattle.answer.specs.declared.refusal.Fault.{Fault}
 use Rattle.ground.proofs.Laws.{never}
 use Rattle.name.specs.Name.{isEmpty, isSimple, isDotted, isName, isNamespace, hasDot, fullName, isReserved, namespacePart}
-use Rattle.name.specs.Full.{isShort}
+use Rattle.name.specs.Full.{keptLimit, isShort}
 use Rattle.name.proofs.Laws.{simple-dotted, dotted-some, empty-none, full-dotted, full-reserved, namespace-good}
 use Rattle.view.specs.declared.space.Spot.{Spot}
 use Rattle.view.specs.declared.space.Spot.the-variants.{At, Nowhere}
@@ -29,14 +29,14 @@ pub use Rattle.form.proofs.Written.{Copied, copied, Answers, named-kept
 
 -- ---- names that passed their checks
 
--- of 1 to 255 bytes
+-- of 1 to `keptLimit` bytes
 pub record Sized (s : List ℕ) : Type 0 where
   pub some : 1 ≤ length s
-  pub short : length s ≤ 255
+  pub short : length s ≤ keptLimit
 
-kept-short : (s : List ℕ) (x : Fault) → must (isShort s) x ≡ Fine → length s ≤ 255
+kept-short : (s : List ℕ) (x : Fault) → must (isShort s) x ≡ Fine → length s ≤ keptLimit
 unfolding isShort
-kept-short s x e = leb-true (length s) 255 (must-fine (leb (length s) 255) x e)
+kept-short s x e = leb-true (length s) keptLimit (must-fine (leb (length s) keptLimit) x e)
 
 dotted-long : (s : List ℕ) → isDotted s ≡ true → 1 ≤ length s
 dotted-long [] e = never (sym (dotted-some [] e) ∙ empty-none [] refl)
@@ -56,13 +56,13 @@ module _ (t : List ℕ) (q : ℕ) (e : simpleCheck t q ≡ Fine) where
     short = kept-short (stringAt t q) _ (simple-parts .1);
   }
 
--- a full name: simple names joined by dots, of 1 to 255 bytes; what stands before its last dot is a namespace
+-- a full name: simple names joined by dots, of 1 to `keptLimit` bytes; what stands before its last dot is a namespace
 pub record Full (f : List ℕ) : Type 0 where
   pub dotted : isDotted f ≡ true
   pub sized : Sized f
   pub own : isNamespace (namespacePart f) ≡ true
 
-full-of : (f : List ℕ) → isDotted f ≡ true → length f ≤ 255 → Full f
+full-of : (f : List ℕ) → isDotted f ≡ true → length f ≤ keptLimit → Full f
 full-of f e h = record { dotted = e; sized = record { some = dotted-long f e; short = h }; own = namespace-good f e }
 
 module _ (t namespace : List ℕ) (q : ℕ) (n : isNamespace namespace ≡ true) where

@@ -17,8 +17,9 @@ use Rattle.ground.proofs.Laws.{length-part, length-store, store-fits}
 use Rattle.name.specs.declared.qualify.Full.{Full}
 use Rattle.name.specs.declared.qualify.Full.the-variants.{Fits, TooLong}
 use Rattle.name.specs.Name.{isEmpty, isSimple, isName, isNamespace, hasDot, fullName, isReserved}
-use Rattle.name.specs.Full.{isShort, answerOf, bufferAfter}
+use Rattle.name.specs.Full.{keptLimit, isShort, answerOf, bufferAfter}
 use Rattle.name.proofs.Laws.{plain-lead, length-full, full-reserved, fits-length, too-long, buffer-short, buffer-long}
+use Rattle.json.specs.Json.{longest}
 use Rattle.view.specs.declared.space.Spot.{Spot}
 use Rattle.view.specs.declared.space.Spot.the-variants.{At, Nowhere}
 use Rattle.view.specs.declared.members.Members.{Members}
@@ -50,7 +51,7 @@ copied-fit s {n} m {m′} e h =
     record { room = omega arith; front = front-is s m m′ n (e .0) (e .1) (omega arith) }
 
 pub copied : (t : List ℕ) (q : ℕ) {n : ℕ} (m : List ℕ) {m′ : List ℕ} → (n ≡ length (stringAt t q)) × (m′ ≡ store m 0 (stringAt t q))
-    → length t ≤ 32768 → length m ≡ 32768 → Copied (stringAt t q) n m′
+    → length t ≤ longest → length m ≡ longest → Copied (stringAt t q) n m′
 copied t q {n} m {m′} e h k =
     let a = string-short t q in
     let b = e .0 in
@@ -99,7 +100,7 @@ pub named-wrong : (c : Check) (f : List ℕ) {x : Fault} → Wrong x ≡ named c
 named-wrong Fine f e = let z : _≡_ {A = ℕ} 0 1 = cc in absurd (omega arith)
 named-wrong (Bad y) f {x} e = let z : x ≡ y = cc in ap Bad (sym z)
 
-pub kept-copied : (c : Check) (f m : List ℕ) {m′ : List ℕ} {n : ℕ} → Kept n ≡ named c f → m′ ≡ keptIn m c f → length f ≤ 255 → length m ≡ 255 → Copied f n m′
+pub kept-copied : (c : Check) (f m : List ℕ) {m′ : List ℕ} {n : ℕ} → Kept n ≡ named c f → m′ ≡ keptIn m c f → length f ≤ keptLimit → length m ≡ keptLimit → Copied f n m′
 kept-copied Fine f m {m′} {n} e g h k =
     let z : n ≡ length f = cc in
     copied-fit f m (z, g) (omega arith)
@@ -111,7 +112,7 @@ module _ (t w : List ℕ) (q : ℕ) {b : Bool} (f : b ≡ isSimple w) where
   pub simple-not : b ≡ false → {x : Fault} → x ≡ notAName isSimple t q → Bad x ≡ (must (isSimple w) (notAName isSimple t q) then kept w q)
   simple-not g h = rw (← f, g, h)
 
-  pub simple-kept : b ≡ true → {r : Check} → r ≡ must (leb (length w) 255) (fault StringTooLong q) → r ≡ (must (isSimple w) (notAName isSimple t q) then kept w q)
+  pub simple-kept : b ≡ true → {r : Check} → r ≡ must (leb (length w) keptLimit) (fault StringTooLong q) → r ≡ (must (isSimple w) (notAName isSimple t q) then kept w q)
   unfolding isShort
   simple-kept g i = rw (← f, g) i
 
@@ -125,17 +126,17 @@ module _ (f m m′ : List ℕ) (q : ℕ) {a : Full} (e : (a ≡ answerOf f) × (
   unfolding isShort store
   keep-fits {n} g =
       let z = fits-length f n (sym (e .0) ∙ g) in
-      rw (le-leb (length f) 255 (z .1)) (ap Kept (z .0), e .1 ∙ buffer-short f m (z .1))
+      rw (le-leb (length f) keptLimit (z .1)) (ap Kept (z .0), e .1 ∙ buffer-short f m (z .1))
 
   pub keep-long : a ≡ TooLong → Answers (kept f q) f m m′ (Wrong (fault StringTooLong q))
   unfolding isShort
   keep-long g =
       let z = too-long f (sym (e .0) ∙ g) in
-      rw (lt-leb (length f) 255 z) (refl, e .1 ∙ buffer-long f m z)
+      rw (lt-leb (length f) keptLimit z) (refl, e .1 ∙ buffer-long f m z)
 
-kept-long : (f m : List ℕ) (q : ℕ) → 255 < length f → Answers (kept f q) f m m (Wrong (fault StringTooLong q))
+kept-long : (f m : List ℕ) (q : ℕ) → keptLimit < length f → Answers (kept f q) f m m (Wrong (fault StringTooLong q))
 unfolding isShort
-kept-long f m q h = rw (lt-leb (length f) 255 h) (refl, refl)
+kept-long f m q h = rw (lt-leb (length f) keptLimit h) (refl, refl)
 
 module _ (namespace s m : List ℕ) (q : ℕ) {b : Bool} (e : b ≡ isReserved s) where
   pub given-reserved : b ≡ true
@@ -214,7 +215,7 @@ module _ (t : List ℕ) (w n q : ℕ) (word m : List ℕ) {v : List ℕ} (o : v 
           → Answers (spacedCheck t w (part word 0 n) q) (fullName (stringAt t w) (part word 0 n)) m m′ r
       spaced-kept i h = spaced-by (given-free v (part word 0 n) m q (e ∙ ap isReserved (lent-front word n)) f (rw i at h))
 
-      pub spaced-long : n ≤ length word → hasDot (part word 0 n) ≡ false → 255 < n
+      pub spaced-long : n ≤ length word → hasDot (part word 0 n) ≡ false → keptLimit < n
           → Answers (spacedCheck t w (part word 0 n) q) (fullName (stringAt t w) (part word 0 n)) m m (Wrong (fault StringTooLong q))
       spaced-long h d l =
           let a = full-longer v (part word 0 n) d in

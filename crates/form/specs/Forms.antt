@@ -1,11 +1,12 @@
 -- What a schema at a place is.
 -- Assumes nothing.
-use Prim.Native.Nat.{ℕ, zero, suc}
+use Prim.Native.Nat.{ℕ, zero, suc, _+_}
 use mathlib.Core.Bool.{Bool, true, false, cond}
 use mathlib.Core.List.{List, [], _∷_}
 use Rattle.answer.specs.declared.refusal.Why.the-variants.{NotASchema, TypeMissing, NestedTooDeep}
 use Rattle.ground.specs.Ascii.{ascii}
 use Rattle.ground.specs.Bytes.{same}
+use Rattle.json.specs.Json.{deepest}
 use Rattle.row.specs.declared.kind.Kind.{Kind}
 use Rattle.row.specs.declared.kind.Kind.the-variants.{Null, Boolean, Int, Long, Float, Double, Bytes, String, Reference}
 use Rattle.view.specs.declared.space.Spot.{Spot}
@@ -54,13 +55,17 @@ formBy nested t p Number = form.Wrong (fault NotASchema p)
 formBy nested t p Word = form.Wrong (fault NotASchema p)
 formBy nested t p Nothing = form.Wrong (fault NotASchema p)
 
--- n: how many schemas may be nested in a `type`. The scan lets brackets nest at most 64, so 65 are enough
+-- so many schemas can stand in one another: the scan lets at most `deepest` brackets nest, so one more is enough
+abbrev pub mostNested : ℕ
+mostNested = deepest + 1
+
+-- n: how many schemas may be nested in a `type`
 unfoldable pub formWithin : ℕ → List ℕ → ℕ → Form
 formWithin zero t p = form.Wrong (fault NestedTooDeep p)
 formWithin (suc n) t p = formBy (formWithin n t) t p (shapeAt t p)
 
 abbrev pub formOf : List ℕ → ℕ → Form
-formOf t p = formWithin 65 t p
+formOf t p = formWithin mostNested t p
 
 -- the object that a form goes by, if there is one
 abbrev pub objectOf : Form → Spot

@@ -5,6 +5,7 @@ use super::spots::is_text;
 use answer::Fault;
 use answer::Why;
 use ground::same;
+use json::Scan;
 use row::Kind;
 use view::Members;
 use view::Spot;
@@ -35,6 +36,11 @@ pub enum Form {
     EnumOf(usize),
     FixedOf(usize),
     Wrong(Fault),
+}
+
+impl Form {
+    // So many schemas can stand in one another: one more than brackets may be open.
+    pub const MOST_NESTED: usize = Scan::NESTING + 1;
 }
 
 // A form, with the members of the object that it goes by; with none where it goes by no object.
@@ -182,7 +188,7 @@ pub fn find(text: &[u8], ends: &[u16], at: usize) -> Found
     ensures { λ r. ⌜ r ≡ foundOf (now (text .entry)) (formOf (now (text .entry)) at) ⌝ }
 {
     let mut p = at;
-    let mut left: usize = 65;
+    let mut left: usize = Form::MOST_NESTED;
     while 0 < left {
         if !is_object(text, p) {
             return other_form(text, p);

@@ -8,6 +8,7 @@ use breach::name_breach;
 use breach::namespace_breach;
 use breach::simple_breach;
 use ground::copy;
+use json::Scan;
 use name::Full;
 use name::full_name;
 use name::has_dot;
@@ -25,6 +26,7 @@ ghost use Prim.Native.Nat.{_≤_};
 ghost use lib.ListN.{length};
 ghost use Rattle.ground.specs.Bytes.{part, store};
 ghost use Rattle.name.specs.Name.{isSimple, isName, isNamespace, hasDot, fullName};
+ghost use Rattle.json.specs.Json.{longest};
 ghost use Rattle.view.specs.Strings.{stringAt};
 ghost use Rattle.view.specs.Known.{Known};
 ghost use Rattle.form.specs.Checks.{must, _then_};
@@ -77,8 +79,8 @@ fn simple(text: &[u8], written: &[u8], at: usize) -> Check
 }
 
 // A field's name or alias, a symbol: the string at `at` must be a simple name.
-pub fn simple_check(text: &[u8], ends: &[u16], at: usize, word: &mut [u8; 32768]) -> Check
-    requires { ⌜ (length (now text) ≤ 32768) × Known (now text) (now ends) ⌝ }
+pub fn simple_check(text: &[u8], ends: &[u16], at: usize, word: &mut [u8; Scan::TEXT]) -> Check
+    requires { ⌜ (length (now text) ≤ longest) × Known (now text) (now ends) ⌝ }
     ensures { λ r. ⌜ r ≡ simpleCheck (now (text .entry)) at ⌝ }
 {
     let e = literal(text, ends, at);
@@ -93,7 +95,7 @@ pub fn simple_check(text: &[u8], ends: &[u16], at: usize, word: &mut [u8; 32768]
 }
 
 // The full name of what is written at `at`, in a namespace: 9.
-fn qualified(namespace: &[u8], written: &[u8], at: usize, full: &mut [u8; 255]) -> Named
+fn qualified(namespace: &[u8], written: &[u8], at: usize, full: &mut [u8; Full::LONGEST]) -> Named
     ensures { λ r. ⌜ (r ≡ named (kept (fullName (now (namespace .entry)) (now (written .entry))) at) (fullName (now (namespace .entry)) (now (written .entry)))) × (now (full .exit) ≡ keptIn (now (full .entry)) (kept (fullName (now (namespace .entry)) (now (written .entry))) at) (fullName (now (namespace .entry)) (now (written .entry)))) ⌝ }
 {
     match full_name(namespace, written, full) {
@@ -106,7 +108,7 @@ fn qualified(namespace: &[u8], written: &[u8], at: usize, full: &mut [u8; 255]) 
 }
 
 // The same of a name that is given to something: 8, 9. The last part of what is written is that of the full name.
-fn given(namespace: &[u8], written: &[u8], at: usize, full: &mut [u8; 255]) -> Named
+fn given(namespace: &[u8], written: &[u8], at: usize, full: &mut [u8; Full::LONGEST]) -> Named
     ensures { λ r. ⌜ (r ≡ named (unreserved (fullName (now (namespace .entry)) (now (written .entry))) at then kept (fullName (now (namespace .entry)) (now (written .entry))) at) (fullName (now (namespace .entry)) (now (written .entry)))) × (now (full .exit) ≡ keptIn (now (full .entry)) (unreserved (fullName (now (namespace .entry)) (now (written .entry))) at then kept (fullName (now (namespace .entry)) (now (written .entry))) at) (fullName (now (namespace .entry)) (now (written .entry)))) ⌝ }
 {
     if is_reserved(written) {
@@ -124,10 +126,10 @@ pub fn reference(
     ends: &[u16],
     namespace: &[u8],
     at: usize,
-    word: &mut [u8; 32768],
-    full: &mut [u8; 255],
+    word: &mut [u8; Scan::TEXT],
+    full: &mut [u8; Full::LONGEST],
 ) -> Named
-    requires { ⌜ (length (now text) ≤ 32768) × Known (now text) (now ends) ⌝ }
+    requires { ⌜ (length (now text) ≤ longest) × Known (now text) (now ends) ⌝ }
     ensures { λ r. ⌜ (r ≡ named (referenceCheck (now (text .entry)) (now (namespace .entry)) at) (fullAt (now (text .entry)) (now (namespace .entry)) at)) × (now (full .exit) ≡ keptIn (now (full .entry)) (referenceCheck (now (text .entry)) (now (namespace .entry)) at) (fullAt (now (text .entry)) (now (namespace .entry)) at)) ⌝ }
 {
     let n = string_copy(text, ends, at, word);
@@ -144,10 +146,10 @@ pub fn alias(
     ends: &[u16],
     namespace: &[u8],
     at: usize,
-    word: &mut [u8; 32768],
-    full: &mut [u8; 255],
+    word: &mut [u8; Scan::TEXT],
+    full: &mut [u8; Full::LONGEST],
 ) -> Named
-    requires { ⌜ (length (now text) ≤ 32768) × Known (now text) (now ends) ⌝ }
+    requires { ⌜ (length (now text) ≤ longest) × Known (now text) (now ends) ⌝ }
     ensures { λ r. ⌜ (r ≡ named (aliasCheck (now (text .entry)) (now (namespace .entry)) at) (fullAt (now (text .entry)) (now (namespace .entry)) at)) × (now (full .exit) ≡ keptIn (now (full .entry)) (aliasCheck (now (text .entry)) (now (namespace .entry)) at) (fullAt (now (text .entry)) (now (namespace .entry)) at)) ⌝ }
 {
     let n = string_copy(text, ends, at, word);
@@ -166,13 +168,13 @@ fn in_namespace(
     space: usize,
     n: usize,
     at: usize,
-    word: &mut [u8; 32768],
-    full: &mut [u8; 255],
+    word: &mut [u8; Scan::TEXT],
+    full: &mut [u8; Full::LONGEST],
 ) -> Named
-    requires { ⌜ (length (now text) ≤ 32768) × Known (now text) (now ends) × (n ≤ 32768) × (hasDot (part (now word) 0 n) ≡ false) ⌝ }
+    requires { ⌜ (length (now text) ≤ longest) × Known (now text) (now ends) × (n ≤ longest) × (hasDot (part (now word) 0 n) ≡ false) ⌝ }
     ensures { λ r. ⌜ (r ≡ named (spacedCheck (now (text .entry)) space (part (now (word .entry)) 0 n) at) (fullName (stringAt (now (text .entry)) space) (part (now (word .entry)) 0 n))) × (now (full .exit) ≡ keptIn (now (full .entry)) (spacedCheck (now (text .entry)) space (part (now (word .entry)) 0 n) at) (fullName (stringAt (now (text .entry)) space) (part (now (word .entry)) 0 n))) ⌝ }
 {
-    let mut own: [u8; 255] = [0; 255];
+    let mut own: [u8; Full::LONGEST] = [0; Full::LONGEST];
     let all = &word[..];
     let reserved = is_reserved(&all[0..n]);
     copy(&mut own, 0, &all[0..n]);
@@ -203,10 +205,10 @@ pub fn definition(
     enclosing: &[u8],
     members: Members,
     at: usize,
-    word: &mut [u8; 32768],
-    full: &mut [u8; 255],
+    word: &mut [u8; Scan::TEXT],
+    full: &mut [u8; Full::LONGEST],
 ) -> Named
-    requires { ⌜ (length (now text) ≤ 32768) × Known (now text) (now ends) ⌝ }
+    requires { ⌜ (length (now text) ≤ longest) × Known (now text) (now ends) ⌝ }
     ensures { λ r. ⌜ (r ≡ named (definitionCheck (now (text .entry)) (now (enclosing .entry)) members at) (definedAt (now (text .entry)) (now (enclosing .entry)) members at)) × (now (full .exit) ≡ keptIn (now (full .entry)) (definitionCheck (now (text .entry)) (now (enclosing .entry)) members at) (definedAt (now (text .entry)) (now (enclosing .entry)) members at)) ⌝ }
 {
     let n = string_copy(text, ends, at, word);
