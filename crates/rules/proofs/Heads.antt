@@ -17,7 +17,7 @@ use Rattle.ground.proofs.Laws.{same-unlike, store-fits}
 use Rattle.name.specs.declared.qualify.Full.{Full}
 use Rattle.name.specs.declared.qualify.Full.the-variants.{Fits, TooLong}
 use Rattle.name.specs.Name.{isEmpty, hasDot, startsWithDot, fullName}
-use Rattle.name.specs.Full.{answerOf, bufferAfter}
+use Rattle.name.specs.Full.{keptLimit, answerOf, bufferAfter}
 use Rattle.name.proofs.Laws.{length-full, answer-long, too-long, buffer-length, buffer-long, fits-room, fits-front}
 use Rattle.row.specs.Kinds.{kindNumber}
 use Rattle.row.specs.declared.kind.Kind.{Kind}
@@ -189,11 +189,11 @@ module _ (t namespace : List ℕ) (q : ℕ) (m : List ℕ) where
   unfolding fullAt
   full-is d e f = rw (← d, ← e) f
 
-  pub full-long : {n : ℕ} → n ≡ length (stringAt t q) → 256 < n → (TooLong ≡ answerOf (fullAt t namespace q)) × (m ≡ bufferAfter m (fullAt t namespace q))
+  pub full-long : {n : ℕ} → n ≡ length (stringAt t q) → keptLimit + 1 < n → (TooLong ≡ answerOf (fullAt t namespace q)) × (m ≡ bufferAfter m (fullAt t namespace q))
   unfolding fullAt
   full-long e l =
       let z = full-shrinks namespace (stringAt t q) in
-      let k : 255 < length (fullName namespace (stringAt t q)) = omega arith in
+      let k : keptLimit < length (fullName namespace (stringAt t q)) = omega arith in
       (sym (answer-long (fullName namespace (stringAt t q)) k), sym (buffer-long (fullName namespace (stringAt t q)) m k))
 
 -- a string in a buffer that has room for it
@@ -258,11 +258,11 @@ definition-called t namespace m = go (asText t (m .name))
     go Nowhere = refl
 
 -- by the answer: a full name that is in the buffer, one that is too long, a kind
-module _ (m : List ℕ) {m′ : List ℕ} (l : length m′ ≡ 255) where
+module _ (m : List ℕ) {m′ : List ℕ} (l : length m′ ≡ keptLimit) where
   name-full : (s : List ℕ) → m′ ≡ bufferAfter m s → (a : Full) → answerOf s ≡ a → {n : ℕ} → byName a ≡ apart.Name n → (n ≤ length m′) × (take (n - 0) (drop 0 m′) ≡ s)
   name-full s e (Fits j) f {n} g =
       let h : j ≡ n = cc in
-      let k : length m ≡ 255 = sym (ap length e ∙ buffer-length s m) ∙ l in
+      let k : length m ≡ keptLimit = sym (ap length e ∙ buffer-length s m) ∙ l in
       (fits-room s m m′ (answerOf s) refl e n (f ∙ ap Fits h) k, fits-front s m m′ (answerOf s) refl e n (f ∙ ap Fits h) k)
   name-full s e TooLong f g = let z : _≡_ {A = ℕ} 0 1 = cc in absurd (omega arith)
 
@@ -271,7 +271,7 @@ module _ (m : List ℕ) {m′ : List ℕ} (l : length m′ ≡ 255) where
   apart-name (unnamed k) e f = let z : _≡_ {A = ℕ} 0 1 = cc in absurd (omega arith)
   apart-name (called s) e f = let r = name-full s (e .1) (answerOf s) refl (sym (e .0) ∙ f) in (r .0, ap called (r .1))
 
-  pub apart-short : (h : Head) {x : Apart} → (x ≡ apartOf h) × (m′ ≡ nameAfter m h) → {n : ℕ} → x ≡ apart.Name n → length (take (n - 0) (drop 0 m′)) ≤ 255
+  pub apart-short : (h : Head) {x : Apart} → (x ≡ apartOf h) × (m′ ≡ nameAfter m h) → {n : ℕ} → x ≡ apart.Name n → length (take (n - 0) (drop 0 m′)) ≤ keptLimit
   apart-short h e {n} f = let r = apart-name h e f .0 in let z = length-take (n - 0) (drop 0 m′) in omega arith
 
 -- a kind, and a full name that is too long, are no other's name
@@ -288,7 +288,7 @@ module _ (h : Head) (name : List ℕ) {x : Apart} (e : x ≡ apartOf h) where
       go (unnamed j) g = refl
       go (called s) g = absurd (named (answerOf s) g)
 
-  pub clash-long : length name ≤ 255 → x ≡ apart.LongName → false ≡ clash h (called name)
+  pub clash-long : length name ≤ keptLimit → x ≡ apart.LongName → false ≡ clash h (called name)
   unfolding clash apartOf
   clash-long l f = go h (sym e ∙ f)
     where

@@ -5,6 +5,8 @@ use super::standing::Standing;
 use super::unions::Apart;
 use super::unions::is_new_name;
 use super::unions::told_apart;
+use json::Scan;
+use name::Full;
 use row::Kind;
 use seen::enter;
 use seen::forget;
@@ -18,6 +20,8 @@ ghost use mathlib.Core.List.{[], _∷_, map};
 ghost use Prim.Native.Nat.{_≤_};
 ghost use lib.Dec.{eqb};
 ghost use lib.ListN.{length};
+ghost use Rattle.name.specs.Full.{keptLimit};
+ghost use Rattle.json.specs.Json.{longest};
 ghost use Rattle.row.specs.Kinds.{kindNumber};
 ghost use Rattle.row.specs.declared.kind.Kind.the-variants.{Union};
 ghost use Rattle.view.specs.Elements.{elements};
@@ -49,9 +53,9 @@ fn enter_name(
     member: usize,
     name: &[u8],
     table: &mut [u64],
-    word: &mut [u8; 32768],
+    word: &mut [u8; Scan::TEXT],
 ) -> bool
-    requires { ⌜ (length (now text) ≤ 32768) × (length (now name) ≤ 255) × Known (now text) (now ends) × Sized (now table) × Holds (now table) (map (keyAt (now text) (now namespace)) (before member (elements (now text) array))) ⌝ }
+    requires { ⌜ (length (now text) ≤ longest) × (length (now name) ≤ keptLimit) × Known (now text) (now ends) × Sized (now table) × Holds (now table) (map (keyAt (now text) (now namespace)) (before member (elements (now text) array))) ⌝ }
     ensures { λ r. ⌜ (r ≡ isNew (now (text .entry)) (now (namespace .entry)) (called (now (name .entry))) (before member (elements (now (text .entry)) array))) × (now (table .exit) ≡ entered (now (table .entry)) (markOf (now (name .entry)))) ⌝ }
 {
     if !enter(table, mark_of(name)) {
@@ -68,10 +72,10 @@ fn enter_member(
     array: usize,
     member: usize,
     table: &mut [u64],
-    word: &mut [u8; 32768],
-    full: &mut [u8; 255],
+    word: &mut [u8; Scan::TEXT],
+    full: &mut [u8; Full::LONGEST],
 ) -> bool
-    requires { ⌜ (length (now text) ≤ 32768) × Known (now text) (now ends) × Sized (now table) × Holds (now table) (map (keyAt (now text) (now namespace)) (before member (elements (now text) array))) ⌝ }
+    requires { ⌜ (length (now text) ≤ longest) × Known (now text) (now ends) × Sized (now table) × Holds (now table) (map (keyAt (now text) (now namespace)) (before member (elements (now text) array))) ⌝ }
     ensures { λ r. ⌜ Enters (now (text .entry)) (now (namespace .entry)) array member (now (table .entry)) (now (table .exit)) r ⌝ }
 {
     match told_apart(text, ends, namespace, member, word, full) {
@@ -100,12 +104,12 @@ fn new_until(
     namespace: &[u8],
     array: usize,
     table: &mut [u64],
-    word: &mut [u8; 32768],
+    word: &mut [u8; Scan::TEXT],
 ) -> usize
-    requires { ⌜ (length (now text) ≤ 32768) × Known (now text) (now ends) × Sized (now table) ⌝ }
+    requires { ⌜ (length (now text) ≤ longest) × Known (now text) (now ends) × Sized (now table) ⌝ }
     ensures { λ r. ⌜ Sure (now (text .entry)) (now (namespace .entry)) array r ⌝ }
 {
-    let mut full: [u8; 255] = [0; 255];
+    let mut full: [u8; Full::LONGEST] = [0; Full::LONGEST];
     let mut spot = first_element(text, array);
     loop {
         let Spot::At(p) = spot else {
@@ -118,13 +122,18 @@ fn new_until(
     }
 }
 
-// Has the array at most eight elements?
+// A union is small with at most so many members, or with fewer bytes.
+const FEW: usize = 8;
+
+const FEW_BYTES: usize = 48;
+
+// Has the array at most so few elements?
 fn is_small(text: &[u8], ends: &[u16], array: usize) -> bool
     requires { ⌜ Known (now text) (now ends) ⌝ }
 {
     let mut spot = first_element(text, array);
     let mut n: usize = 0;
-    while n < 8 {
+    while n < FEW {
         let Spot::At(p) = spot else {
             return true;
         };
@@ -141,13 +150,13 @@ pub fn surely_new(
     namespace: &[u8],
     array: usize,
     table: &mut [u64],
-    word: &mut [u8; 32768],
+    word: &mut [u8; Scan::TEXT],
 ) -> usize
-    requires { ⌜ (length (now text) ≤ 32768) × Known (now text) (now ends) × Sized (now table) ⌝ }
+    requires { ⌜ (length (now text) ≤ longest) × Known (now text) (now ends) × Sized (now table) ⌝ }
     ensures { λ r. ⌜ Sure (now (text .entry)) (now (namespace .entry)) array r ⌝ }
 {
     let long = bytes_at(text, ends, array);
-    if long < 48 {
+    if long < FEW_BYTES {
         return 0;
     }
     if is_small(text, ends, array) {

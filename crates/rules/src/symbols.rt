@@ -6,6 +6,7 @@ use form::Check;
 use form::is_text;
 use form::must;
 use form::simple_check;
+use json::Scan;
 use seen::enter;
 use seen::forget;
 use view::Spot;
@@ -20,6 +21,7 @@ ghost use Prim.Native.Nat.{_≤_};
 ghost use lib.ListN.{length};
 ghost use Rattle.answer.specs.declared.refusal.Why.the-variants.{SymbolNotAString, SymbolTwice};
 ghost use Rattle.name.specs.Name.{isOneOf};
+ghost use Rattle.json.specs.Json.{longest};
 ghost use Rattle.view.specs.Values.{shapeAt};
 ghost use Rattle.view.specs.Strings.{stringAt};
 ghost use Rattle.view.specs.Elements.{elements};
@@ -91,9 +93,9 @@ fn symbol(
     array: usize,
     at: usize,
     table: &mut [u64],
-    word: &mut [u8; 32768],
+    word: &mut [u8; Scan::TEXT],
 ) -> Check
-    requires { ⌜ (length (now text) ≤ 32768) × Known (now text) (now ends) × Sized (now table) × Holds (now table) (map (stringAt (now text)) (before at (elements (now text) array))) ⌝ }
+    requires { ⌜ (length (now text) ≤ longest) × Known (now text) (now ends) × Sized (now table) × Holds (now table) (map (stringAt (now text)) (before at (elements (now text) array))) ⌝ }
     ensures { λ r. ⌜ (r ≡ simpleCheck (now (text .entry)) at then must (not (isOneOf (map (stringAt (now (text .entry))) (before at (elements (now (text .entry)) array))) (stringAt (now (text .entry)) at))) (fault SymbolTwice at)) × (now (table .exit) ≡ entered (now (table .entry)) (markOf (stringAt (now (text .entry)) at))) ⌝ }
 {
     let twice = enter_symbol(text, ends, array, at, table);
@@ -109,9 +111,9 @@ fn each_symbol(
     ends: &[u16],
     array: usize,
     table: &mut [u64],
-    word: &mut [u8; 32768],
+    word: &mut [u8; Scan::TEXT],
 ) -> Check
-    requires { ⌜ (length (now text) ≤ 32768) × Known (now text) (now ends) × Sized (now table) ⌝ }
+    requires { ⌜ (length (now text) ≤ longest) × Known (now text) (now ends) × Sized (now table) ⌝ }
     ensures { λ r. ⌜ r ≡ symbolsNew (now (text .entry)) [] (elements (now (text .entry)) array) ⌝ }
 {
     let mut spot = first_element(text, array);
@@ -132,9 +134,9 @@ fn each_new(
     ends: &[u16],
     array: usize,
     table: &mut [u64],
-    word: &mut [u8; 32768],
+    word: &mut [u8; Scan::TEXT],
 ) -> Check
-    requires { ⌜ (length (now text) ≤ 32768) × Known (now text) (now ends) × Sized (now table) ⌝ }
+    requires { ⌜ (length (now text) ≤ longest) × Known (now text) (now ends) × Sized (now table) ⌝ }
     ensures { λ r. ⌜ r ≡ symbolsNew (now (text .entry)) [] (elements (now (text .entry)) array) ⌝ }
 {
     let n = forget(table, bytes_at(text, ends, array));
@@ -147,9 +149,9 @@ pub fn symbols_check(
     ends: &[u16],
     array: usize,
     table: &mut [u64],
-    word: &mut [u8; 32768],
+    word: &mut [u8; Scan::TEXT],
 ) -> Check
-    requires { ⌜ (length (now text) ≤ 32768) × Known (now text) (now ends) × Sized (now table) ⌝ }
+    requires { ⌜ (length (now text) ≤ longest) × Known (now text) (now ends) × Sized (now table) ⌝ }
     ensures { λ r. ⌜ r ≡ symbolsCheck (now (text .entry)) (elements (now (text .entry)) array) ⌝ }
 {
     match all_strings(text, ends, array) {

@@ -9,6 +9,7 @@ use form::find;
 use form::must;
 use form::word_kind;
 use ground::same;
+use json::Scan;
 use name::Full;
 use name::full_name;
 use row::Kind;
@@ -21,10 +22,11 @@ ghost use mathlib.Core.Path.{_≡_};
 ghost use mathlib.Core.List.{List};
 ghost use Prim.Native.Nat.{ℕ, _≤_};
 ghost use lib.ListN.{length};
+ghost use Rattle.json.specs.Json.{longest};
 ghost use Rattle.view.specs.Elements.{elements};
 ghost use Rattle.view.specs.Strings.{stringAt};
 ghost use Rattle.view.specs.Known.{Known};
-ghost use Rattle.name.specs.Full.{answerOf, bufferAfter};
+ghost use Rattle.name.specs.Full.{keptLimit, answerOf, bufferAfter};
 ghost use Rattle.form.specs.Names.{fullAt};
 ghost use Rattle.form.specs.Forms.{formOf, wordKind};
 ghost use Rattle.rules.specs.Unions.{unnamed, called, clash, wordHead, headOf, headNumber, nameOf, byName, apartOf, nameAfter, before, isNew, unionCheck};
@@ -128,10 +130,10 @@ fn full_at(
     ends: &[u16],
     namespace: &[u8],
     at: usize,
-    word: &mut [u8; 32768],
-    full: &mut [u8; 255],
+    word: &mut [u8; Scan::TEXT],
+    full: &mut [u8; Full::LONGEST],
 ) -> Full
-    requires { ⌜ (length (now text) ≤ 32768) × Known (now text) (now ends) ⌝ }
+    requires { ⌜ (length (now text) ≤ longest) × Known (now text) (now ends) ⌝ }
     ensures { λ r. ⌜ (r ≡ answerOf (fullAt (now (text .entry)) (now (namespace .entry)) at)) × (now (full .exit) ≡ bufferAfter (now (full .entry)) (fullAt (now (text .entry)) (now (namespace .entry)) at)) ⌝ }
 {
     let n = string_copy(text, ends, at, word);
@@ -139,22 +141,24 @@ fn full_at(
     full_name(namespace, &all[0..n], full)
 }
 
-// The full name of what is written at `at`, in the namespace at `space`. Of a name at most a dot is dropped: one of more than 256
-// bytes has no full name of 255.
+// Of a written name at most a dot is dropped: one of more bytes has no full name that is kept.
+const WRITTEN: usize = Full::LONGEST + 1;
+
+// The full name of what is written at `at`, in the namespace at `space`.
 fn full_in(
     text: &[u8],
     ends: &[u16],
     space: usize,
     at: usize,
-    word: &mut [u8; 32768],
-    full: &mut [u8; 255],
+    word: &mut [u8; Scan::TEXT],
+    full: &mut [u8; Full::LONGEST],
 ) -> Full
-    requires { ⌜ (length (now text) ≤ 32768) × Known (now text) (now ends) ⌝ }
+    requires { ⌜ (length (now text) ≤ longest) × Known (now text) (now ends) ⌝ }
     ensures { λ r. ⌜ (r ≡ answerOf (fullAt (now (text .entry)) (stringAt (now (text .entry)) space) at)) × (now (full .exit) ≡ bufferAfter (now (full .entry)) (fullAt (now (text .entry)) (stringAt (now (text .entry)) space) at)) ⌝ }
 {
-    let mut own: [u8; 256] = [0; 256];
+    let mut own: [u8; WRITTEN] = [0; WRITTEN];
     let n = string_copy(text, ends, at, &mut own);
-    if 256 < n {
+    if WRITTEN < n {
         return Full::TooLong;
     }
     let k = string_copy(text, ends, space, word);
@@ -168,10 +172,10 @@ fn definition_full(
     ends: &[u16],
     enclosing: &[u8],
     members: Members,
-    word: &mut [u8; 32768],
-    full: &mut [u8; 255],
+    word: &mut [u8; Scan::TEXT],
+    full: &mut [u8; Full::LONGEST],
 ) -> Full
-    requires { ⌜ (length (now text) ≤ 32768) × Known (now text) (now ends) ⌝ }
+    requires { ⌜ (length (now text) ≤ longest) × Known (now text) (now ends) ⌝ }
     ensures { λ r. ⌜ (r ≡ answerOf (nameOf (now (text .entry)) (now (enclosing .entry)) members)) × (now (full .exit) ≡ bufferAfter (now (full .entry)) (nameOf (now (text .entry)) (now (enclosing .entry)) members)) ⌝ }
 {
     let own = members.name;
@@ -191,10 +195,10 @@ fn word_apart(
     ends: &[u16],
     namespace: &[u8],
     at: usize,
-    word: &mut [u8; 32768],
-    full: &mut [u8; 255],
+    word: &mut [u8; Scan::TEXT],
+    full: &mut [u8; Full::LONGEST],
 ) -> Apart
-    requires { ⌜ (length (now text) ≤ 32768) × Known (now text) (now ends) ⌝ }
+    requires { ⌜ (length (now text) ≤ longest) × Known (now text) (now ends) ⌝ }
     ensures { λ r. ⌜ (r ≡ apartOf (wordHead (now (text .entry)) (now (namespace .entry)) at (wordKind (stringAt (now (text .entry)) at)))) × (now (full .exit) ≡ nameAfter (now (full .entry)) (wordHead (now (text .entry)) (now (namespace .entry)) at (wordKind (stringAt (now (text .entry)) at)))) ⌝ }
 {
     let kind = word_kind(text, ends, at).number();
@@ -210,10 +214,10 @@ pub(crate) fn told_apart(
     ends: &[u16],
     namespace: &[u8],
     at: usize,
-    word: &mut [u8; 32768],
-    full: &mut [u8; 255],
+    word: &mut [u8; Scan::TEXT],
+    full: &mut [u8; Full::LONGEST],
 ) -> Apart
-    requires { ⌜ (length (now text) ≤ 32768) × Known (now text) (now ends) ⌝ }
+    requires { ⌜ (length (now text) ≤ longest) × Known (now text) (now ends) ⌝ }
     ensures { λ r. ⌜ (r ≡ apartOf (headOf (now (text .entry)) (now (namespace .entry)) (formOf (now (text .entry)) at))) × (now (full .exit) ≡ nameAfter (now (full .entry)) (headOf (now (text .entry)) (now (namespace .entry)) (formOf (now (text .entry)) at))) ⌝ }
 {
     let found = find(text, ends, at);
@@ -240,10 +244,10 @@ fn is_head(
     namespace: &[u8],
     at: usize,
     name: &[u8],
-    word: &mut [u8; 32768],
-    other: &mut [u8; 255],
+    word: &mut [u8; Scan::TEXT],
+    other: &mut [u8; Full::LONGEST],
 ) -> bool
-    requires { ⌜ (length (now text) ≤ 32768) × (length (now name) ≤ 255) × Known (now text) (now ends) ⌝ }
+    requires { ⌜ (length (now text) ≤ longest) × (length (now name) ≤ keptLimit) × Known (now text) (now ends) ⌝ }
     ensures { λ r. ⌜ r ≡ clash (headOf (now (text .entry)) (now (namespace .entry)) (formOf (now (text .entry)) at)) (called (now (name .entry))) ⌝ }
 {
     match told_apart(text, ends, namespace, at, word, other) {
@@ -264,12 +268,12 @@ pub(crate) fn is_new_name(
     array: usize,
     member: usize,
     name: &[u8],
-    word: &mut [u8; 32768],
+    word: &mut [u8; Scan::TEXT],
 ) -> bool
-    requires { ⌜ (length (now text) ≤ 32768) × (length (now name) ≤ 255) × Known (now text) (now ends) ⌝ }
+    requires { ⌜ (length (now text) ≤ longest) × (length (now name) ≤ keptLimit) × Known (now text) (now ends) ⌝ }
     ensures { λ r. ⌜ r ≡ isNew (now (text .entry)) (now (namespace .entry)) (called (now (name .entry))) (before member (elements (now (text .entry)) array)) ⌝ }
 {
-    let mut other: [u8; 255] = [0; 255];
+    let mut other: [u8; Full::LONGEST] = [0; Full::LONGEST];
     let mut spot = first_element(text, array);
     loop {
         let Spot::At(p) = spot else {
@@ -292,9 +296,9 @@ pub fn new_name(
     namespace: &[u8],
     standing: Standing,
     name: &[u8],
-    word: &mut [u8; 32768],
+    word: &mut [u8; Scan::TEXT],
 ) -> Check
-    requires { ⌜ (length (now text) ≤ 32768) × (length (now name) ≤ 255) × Known (now text) (now ends) ⌝ }
+    requires { ⌜ (length (now text) ≤ longest) × (length (now name) ≤ keptLimit) × Known (now text) (now ends) ⌝ }
     ensures { λ r. ⌜ r ≡ unionCheck (now (text .entry)) (now (namespace .entry)) standing (called (now (name .entry))) ⌝ }
 {
     let Standing::MemberOf(array, member) = standing else {

@@ -1,4 +1,4 @@
--- `rules::unions::full_in` meets its contract: a name of over 256 bytes is too long.
+-- `rules::unions::full_in` meets its contract: a name of more bytes than the limit and a dot is too long.
 -- Assumes nothing.
 use Rattle.form.proofs.Laws.{copied}
 use Rattle.rules.proofs.Heads.{full-is, full-long, stored}
