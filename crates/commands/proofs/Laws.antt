@@ -9,6 +9,7 @@ use native.Mathlib.Omega.{arith}
 use lib.Dec.{eqb}
 use lib.ListN.{length, take, getD}
 use borrow.Author.Tests.{lt-ltb, le-ltb}
+use Rattle.json.specs.Json.{longest}
 use Rattle.script.specs.Words.{wordsOf, inFront, wordAt}
 use Rattle.script.specs.Numbers.{numberOf}
 use Rattle.script.specs.Hex.{unhexed}
@@ -116,11 +117,11 @@ module _ (line : List ℕ) (cut : Bool) (w : List ℕ) (n : ℕ) (count : n ≡ 
   last-whole e = rw (e, is, count)
 
 module _ (command : Command) (call : Call) (is : command ≡ Ask call) (n : ℕ) (long : n ≡ textLength call) where
-  pub cut-long : 32768 < n → Ask call ≡ ofCut command
-  cut-long h = rw (is, ← long, lt-ltb 32768 n h)
+  pub cut-long : longest < n → Ask call ≡ ofCut command
+  cut-long h = rw (is, ← long, lt-ltb longest n h)
 
-  pub cut-short : n ≤ 32768 → Unknown ≡ ofCut command
-  cut-short h = rw (is, ← long, le-ltb 32768 n h)
+  pub cut-short : n ≤ longest → Unknown ≡ ofCut command
+  cut-short h = rw (is, ← long, le-ltb longest n h)
 
 module _ (line : List ℕ) (cut : Bool) (w : List ℕ) (last : w ≡ lastWord line cut) (bytes : Unhexed) (is : bytes ≡ unhexed w) (c : Command) (e : c ≡ ofWords (wordsOf line) bytes) where
   pub command-cut : cut ≡ true → ofCut c ≡ commandOf line cut

@@ -7,6 +7,7 @@ use lib.Dec.{ltb}
 use lib.ListN.{length, take}
 use Rattle.ground.specs.Ascii.{ascii}
 use Rattle.ground.specs.Bytes.{same}
+use Rattle.json.specs.Json.{longest}
 use Rattle.script.specs.Words.{wordsOf, wordAt}
 use Rattle.script.specs.Numbers.{numberOf}
 use Rattle.script.specs.Hex.{unhexed}
@@ -107,7 +108,7 @@ abbrev pub ofCut : Command → Command
 ofCut (Lend n) = Unknown
 ofCut (Fill byte) = Unknown
 ofCut (Poke at n) = Unknown
-ofCut (Ask call) = cond (ltb 32768 (textLength call)) (Ask call) Unknown
+ofCut (Ask call) = cond (ltb longest (textLength call)) (Ask call) Unknown
 ofCut Unknown = Unknown
 
 unfoldable pub commandOf : List ℕ → Bool → Command

@@ -10,7 +10,7 @@ use lib.ListN.{length}
 use borrow.Author.Tests.{eqb-true, leb-true}
 use Rattle.ground.proofs.Laws.{never, and-true}
 use Rattle.name.specs.Name.{isEmpty, isSimple, isDotted, isReserved}
-use Rattle.name.specs.Full.{isShort}
+use Rattle.name.specs.Full.{keptLimit, isShort}
 use Rattle.name.proofs.Laws.{dotted-some, simple-dotted, empty-nil}
 use Rattle.row.specs.Rows.{Row}
 use Rattle.row.specs.declared.kind.Kind.{Kind}
@@ -30,21 +30,21 @@ unfolding isEmpty
 some-long [] e = never (sym e)
 some-long (b ∷ s) e = omega arith
 
-full-long : (s : List ℕ) → isFullName s ≡ true → (1 ≤ length s) × (length s ≤ 255)
+full-long : (s : List ℕ) → isFullName s ≡ true → (1 ≤ length s) × (length s ≤ keptLimit)
 unfolding isFullName isShort
 full-long s e =
     let z = and-true (isShort s) (isDotted s) e in
-    (some-long s (dotted-some s (z .1)), leb-true (length s) 255 (z .0))
+    (some-long s (dotted-some s (z .1)), leb-true (length s) keptLimit (z .0))
 
-own-long : (s : List ℕ) → isOwnName s ≡ true → (1 ≤ length s) × (length s ≤ 255)
+own-long : (s : List ℕ) → isOwnName s ≡ true → (1 ≤ length s) × (length s ≤ keptLimit)
 unfolding isOwnName isShort
 own-long s e =
     let z = and-true (isShort s) (isSimple s) e in
-    (some-long s (dotted-some s (simple-dotted s (z .1))), leb-true (length s) 255 (z .0))
+    (some-long s (dotted-some s (simple-dotted s (z .1))), leb-true (length s) keptLimit (z .0))
 
 -- a kept string has 1 to 255 bytes; where none is kept there is none
 pub record KeptText (k : Kind) (s : List ℕ) : Type 0 where
-  pub long : keepsText k ≡ true → (1 ≤ length s) × (length s ≤ 255)
+  pub long : keepsText k ≡ true → (1 ≤ length s) × (length s ≤ keptLimit)
   pub none : keepsText k ≡ false → s ≡ []
 
 text-kept : (k : Kind) (s : List ℕ) → goodText k s ≡ true → KeptText k s
@@ -54,7 +54,7 @@ text-kept k s e =
     record { long = z .0; none = z .1 }
   where
     go : (x y z : Bool) → cond x (isFullName s && not (isReserved s)) (cond y (isFullName s) (cond z (isOwnName s) (isEmpty s))) ≡ true
-        → (x || y || z ≡ true → (1 ≤ length s) × (length s ≤ 255)) × (x || y || z ≡ false → s ≡ [])
+        → (x || y || z ≡ true → (1 ≤ length s) × (length s ≤ keptLimit)) × (x || y || z ≡ false → s ≡ [])
     go true y z f = (λ h. full-long s (and-true (isFullName s) (not (isReserved s)) f .0), λ h. never (sym h))
     go false true z f = (λ h. full-long s f, λ h. never (sym h))
     go false false true f = (λ h. own-long s f, λ h. never (sym h))

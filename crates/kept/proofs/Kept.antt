@@ -8,6 +8,7 @@ use lib.ListN.{length}
 use Rattle.ground.specs.Bytes.{byteAt, same}
 use Rattle.ground.specs.Ascii.{ascii}
 use Rattle.name.specs.Name.{isEmpty, isNamespace}
+use Rattle.json.specs.Json.{longest}
 use Rattle.row.specs.Rows.{Row}
 use Rattle.row.specs.declared.kind.Kind.the-variants.{Array, Map}
 use Rattle.view.specs.Values.{shapeAt, isValue, valueStart}
@@ -23,7 +24,7 @@ use Rattle.form.specs.declared.forms.Form.the-variants as form
 use Rattle.form.specs.Checks.{fault}
 use Rattle.answer.specs.declared.refusal.Why.the-variants.{TypeMissing, ItemsMissing, ValuesMissing}
 use Rattle.form.specs.Spots.{onSpot, isText}
-use Rattle.form.specs.Forms.{objectForm, formBy, formWithin, formOf}
+use Rattle.form.specs.Forms.{objectForm, formBy, formWithin, formOf, mostNested}
 use Rattle.rules.specs.Unions.{headOf}
 use Rattle.schema.specs.Out.{Out, read}
 use Rattle.schema.specs.Schema.{Around, within, schemaBy, schemaOf, rowsOf}
@@ -86,7 +87,7 @@ module _ (t : List ℕ) where
 
 -- ---- any schema
 
-module _ (t : List ℕ) (short : length t ≤ 32768) where
+module _ (t : List ℕ) (short : length t ≤ longest) where
   module _ (schema : Around → ℕ → ℕ → Out)
       (reads : (b : Around) → isNamespace (b .namespace) ≡ true → (e q : ℕ) (rs : List Row) → schema b e q ≡ read rs → Schema t b e (formOf t q) rs)
       (a : Around) (good : isNamespace (a .namespace) ≡ true) (d : ℕ) where
@@ -105,12 +106,12 @@ module _ (t : List ℕ) (short : length t ≤ 32768) where
   pub schema-kept : (n : ℕ) (a : Around) → isNamespace (a .namespace) ≡ true → (d p : ℕ) (rs : List Row) → schemaOf n t a d p ≡ read rs → Schema t a d (formOf t p) rs
   unfolding schemaOf
   schema-kept zero a good d p rs e = unread e
-  schema-kept (suc n) a good d p rs e = schema-by (schemaOf n t) (schema-kept n) a good d (formOf t p) (form-placed t 65 p) e
+  schema-kept (suc n) a good d p rs e = schema-by (schemaOf n t) (schema-kept n) a good d (formOf t p) (form-placed t mostNested p) e
 
   module _ (rs : List Row) (e : rowsOf t ≡ read rs) where
     whole : Schema t (within []) 0 (formOf t (valueStart t)) rs
     unfolding rowsOf isNamespace isEmpty
-    whole = schema-kept 65 (within []) refl 0 (valueStart t) rs e
+    whole = schema-kept mostNested (within []) refl 0 (valueStart t) rs e
 
     -- the rows keep the rules
     kept-rows : isDeclaration rs ≡ true
@@ -118,10 +119,10 @@ module _ (t : List ℕ) (short : length t ≤ 32768) where
 
 -- ---- the rows of a text
 
-pub kept : (t : List ℕ) (rs : List Row) → length t ≤ 32768 → rowsOf t ≡ read rs → isDeclaration rs ≡ true
+pub kept : (t : List ℕ) (rs : List Row) → length t ≤ longest → rowsOf t ≡ read rs → isDeclaration rs ≡ true
 kept t rs short e = kept-rows t short rs e
 
-module _ (t : List ℕ) (rs : List Row) (short : length t ≤ 32768) (e : rowsOf t ≡ read rs) where
+module _ (t : List ℕ) (rs : List Row) (short : length t ≤ longest) (e : rowsOf t ≡ read rs) where
   -- the first row is a schema at depth 0
   pub kept-first : First rs
   kept-first = declaration-first rs (kept t rs short e)

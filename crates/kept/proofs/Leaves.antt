@@ -8,6 +8,7 @@ use native.Mathlib.Omega.{arith}
 use lib.ListN.{length}
 use borrow.Author.Tests.{not-true}
 use Rattle.name.specs.Name.{every, isNamespace, isOneOf}
+use Rattle.json.specs.Json.{longest}
 use Rattle.row.specs.Rows.{Row}
 use Rattle.row.specs.declared.kind.Kind.{Kind}
 use Rattle.row.specs.declared.kind.Kind.the-variants.{Symbol, Alias, FieldAlias}
@@ -35,7 +36,7 @@ pub leaf : {n e : ℕ} {test : Kind → Bool} (r : Row) → r .depth ≡ e → t
 unfolding kindsAt
 leaf r d k p t n f = rows-tree {below = λ j. true} r d k p (good-row r {m = 0} end t n f (two-nil (clash (r .kind) (r .depth)))) rows-none
 
-module _ (t : List ℕ) (short : length t ≤ 32768) where
+module _ (t : List ℕ) (short : length t ≤ longest) where
   -- ---- aliases
 
   module _ (namespace : List ℕ) (n : isNamespace namespace ≡ true) (d : ℕ) where

@@ -9,6 +9,7 @@ use lib.ListN.{length}
 use borrow.Author.Tests.{not-true, eq-eqb, ne-eqb}
 use Rattle.ground.proofs.Laws.{and-true, and-intro}
 use Rattle.name.specs.Name.{every, isEmpty, isNamespace}
+use Rattle.json.specs.Json.{longest}
 use Rattle.row.specs.Rows.{Row}
 use Rattle.row.specs.declared.kind.Kind.{Kind}
 use Rattle.row.specs.declared.kind.Kind.the-variants.{Union}
@@ -107,7 +108,7 @@ module _ (t : List ℕ) (a : Around) (d u : ℕ) where
         (member-apart q ps qs el (reads (asMember a u q) good (d + 1) q (z .front) (z .first))
         (members-apart (ps ++ (q ∷ [])) qs (el ∙ sym (append-assoc ps (q ∷ []) qs)) (z .second)))
 
-    pub union-schema : length t ≤ 32768 → (f : Form) → u < length t → headOf t (a .namespace) f ≡ unnamed Union → {rs : List Row} → unionRows schema t a d u ≡ read rs → Schema t a d f rs
+    pub union-schema : length t ≤ longest → (f : Form) → u < length t → headOf t (a .namespace) f ≡ unnamed Union → {rs : List Row} → unionRows schema t a d u ≡ read rs → Schema t a d f rs
     unfolding unionRows isSchema isPrimitive isNamed isDefinition isKind goodText isEmpty hasOne clash every
     union-schema short f w heads e =
         let y = after-read (unionCheck t (a .namespace) (a .standing) (unnamed Union)) _ e in

@@ -11,7 +11,7 @@ use borrow.Author.Tests.{eqb-false, eqb-true, le-leb, le-ltb, lt-ltb, ltb-true, 
 use Rattle.ground.specs.Bytes.{byteAt}
 use Rattle.ground.proofs.Laws.{never}
 use Rattle.decimals.specs.Limits.{limitOf}
-use Rattle.json.specs.Json.{isDigit}
+use Rattle.json.specs.Json.{isDigit, longest}
 use Rattle.row.specs.declared.kind.Kind.{Kind}
 use Rattle.row.specs.declared.kind.Kind.the-variants.{Bytes, Fixed}
 use Rattle.view.specs.Ends.{isDelimiter}
@@ -156,26 +156,26 @@ decimal-good o n g = go (eqb (n .note) 1) refl
         rw (le-leb 1 (n .precision) (z .0), le-leb (n .scale) (n .precision) (z .1), lt-ltb (n .precision) (2 ^ 64) (z .2))
     go false q = let z = g .plain (eqb-false (n .note) 1 q) in rw (z .0, z .1)
 
-module _ (k : Kind) (d p : ℕ) (s : List ℕ) (n : Note) (below : p < 32768) (g : Noted over.Bytes n) where
+module _ (k : Kind) (d p : ℕ) (s : List ℕ) (n : Note) (below : p < longest) (g : Noted over.Bytes n) where
   -- a row that is no fixed
   pub numbers-good : isKind Fixed k ≡ false → (isKind Bytes k ≡ false → n .note ≡ 0) → goodNumbers (rowWith k d p s 0 n) ≡ true
   unfolding goodNumbers goodSize goodNote goodPrecision
-  numbers-good f h = rw (lt-ltb p 32768 below, f, note-fits (isKind Bytes k) refl, decimal-good over.Bytes n g)
+  numbers-good f h = rw (lt-ltb p longest below, f, note-fits (isKind Bytes k) refl, decimal-good over.Bytes n g)
     where
       note-fits : (x : Bool) → isKind Bytes k ≡ x → cond x (leb (n .note) 6) (eqb (n .note) 0) ≡ true
       note-fits true q = le-leb (n .note) 6 (g .few)
       note-fits false q = rw (h q)
 
 -- a fixed
-pub fixed-numbers : (d p : ℕ) (s : List ℕ) (size : ℕ) (n : Note) → p < 32768 → size < 2 ^ 64 → Noted (over.Fixed size) n → goodNumbers (rowWith Fixed d p s size n) ≡ true
+pub fixed-numbers : (d p : ℕ) (s : List ℕ) (size : ℕ) (n : Note) → p < longest → size < 2 ^ 64 → Noted (over.Fixed size) n → goodNumbers (rowWith Fixed d p s size n) ≡ true
 unfolding goodNumbers goodSize goodNote goodPrecision isKind exceeds
 fixed-numbers d p s size n below h g =
-    rw (lt-ltb p 32768 below, lt-ltb size (2 ^ 64) h, le-leb (n .note) 7 (g .few), le-leb (n .precision) (limitOf size) (ltb-false (limitOf size) (n .precision) (g .fitting)), decimal-good (over.Fixed size) n g)
+    rw (lt-ltb p longest below, lt-ltb size (2 ^ 64) h, le-leb (n .note) 7 (g .few), le-leb (n .precision) (limitOf size) (ltb-false (limitOf size) (n .precision) (g .fitting)), decimal-good (over.Fixed size) n g)
 
 -- no note
-pub plain-numbers : (k : Kind) (d p : ℕ) (s : List ℕ) → p < 32768 → goodNumbers (rowWith k d p s 0 (noted 0)) ≡ true
+pub plain-numbers : (k : Kind) (d p : ℕ) (s : List ℕ) → p < longest → goodNumbers (rowWith k d p s 0 (noted 0)) ≡ true
 unfolding goodNumbers goodSize goodNote goodPrecision goodDecimal limitOf
-plain-numbers k d p s h = rw (lt-ltb p 32768 h) (go (isKind Fixed k) (isKind Bytes k))
+plain-numbers k d p s h = rw (lt-ltb p longest h) (go (isKind Fixed k) (isKind Bytes k))
   where
     go : (x y : Bool) → (cond x (ltb 0 (2 ^ 64)) (eqb 0 0) && cond x (leb 0 7) (cond y (leb 0 6) (eqb 0 0)) && cond x (leb 0 0) true && true) ≡ true
     go true y = refl

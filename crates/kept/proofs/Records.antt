@@ -9,6 +9,7 @@ use lib.ListN.{length}
 use borrow.Author.Tests.{not-true}
 use Rattle.answer.specs.declared.refusal.Why.the-variants.{FieldsMissing, FieldNameTaken, SymbolsMissing, SymbolNotAString}
 use Rattle.name.specs.Name.{isNamespace, isOneOf}
+use Rattle.json.specs.Json.{longest}
 use Rattle.row.specs.Rows.{Row}
 use Rattle.row.specs.declared.kind.Kind.the-variants.{Record, Enum, Fixed, Field}
 use Rattle.view.specs.Values.{shapeAt}
@@ -63,7 +64,7 @@ record Fields (t : List ℕ) (d : ℕ) (taken : List (List ℕ)) (rs : List Row)
   missed : (a : Row) → isOneOf taken (a .text) ≡ true → Misses (takesName d) a rs
   apart : noTwo (takesName d) rs ≡ true
 
-module _ (t : List ℕ) (short : length t ≤ 32768) where
+module _ (t : List ℕ) (short : length t ≤ longest) where
   field-tree : {d f : ℕ} {rs : List Row} (h : FieldOf t d f rs)
       → Rows (length t) d (isKind Field) (rowWith Field d (h .place) (stringAt t (h .place)) 0 (noted 0) ∷ (h .front ++ h .types))
   unfolding isKind isDefinition clash

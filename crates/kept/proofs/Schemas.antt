@@ -10,6 +10,7 @@ use lib.ListN.{length}
 use borrow.Author.Tests.{eq-eqb}
 use Rattle.answer.specs.declared.refusal.Fault.{Fault}
 use Rattle.name.specs.Name.{every, isNamespace, namespacePart}
+use Rattle.json.specs.Json.{longest}
 use Rattle.row.specs.Kinds.{kindNumber}
 use Rattle.row.specs.Rows.{Row}
 use Rattle.row.specs.declared.kind.Kind.{Kind}
@@ -108,9 +109,9 @@ pub record Body (t : List ℕ) (k : Kind) (d : ℕ) (ys : List Row) : Type 0 whe
   pub rows : Rows (length t) (d + 1) (isPartOf k) ys
   pub apart : (xs : List Row) → All (λ r. isKind Alias (r .kind) ≡ true) xs → noTwo (clash k d) (xs ++ ys) ≡ true
 
-module _ (t : List ℕ) (short : length t ≤ 32768) (a : Around) (good : isNamespace (a .namespace) ≡ true) where
+module _ (t : List ℕ) (short : length t ≤ longest) (a : Around) (good : isNamespace (a .namespace) ≡ true) where
   module _ (f : Form) (k : Kind) (de : Defines k) (d p : ℕ) (m : Members) (size : ℕ) (n : Note) (rest : List ℕ → Out)
-      (numbers : (q : ℕ) (s : List ℕ) → q < 32768 → goodNumbers (rowWith k d q s size n) ≡ true)
+      (numbers : (q : ℕ) (s : List ℕ) → q < longest → goodNumbers (rowWith k d q s size n) ≡ true)
       (body : (own : List ℕ) → isNamespace own ≡ true → (ys : List Row) → rest own ≡ read ys → Body t k d ys)
       (heads : headOf t (a .namespace) f ≡ definitionHead t (a .namespace) m) where
     definition-at : (q : ℕ) {rs : List Row} → asText t (m .name) ≡ At q → definitionRows t a k d m q size n rest ≡ read rs → Schema t a d f rs

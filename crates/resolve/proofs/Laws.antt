@@ -10,6 +10,7 @@ use lib.ListN.{length, take, drop, length-append, take-append-drop}
 use borrow.Author.Tests.{lt-ltb, ltb-true, leb-true, eqb-true}
 use Rattle.ground.proofs.Laws.{and-true, and-intro}
 use Rattle.name.specs.Name.{every}
+use Rattle.json.specs.Json.{longest}
 use Rattle.row.specs.Layout.{declarationLimit, rowLimit, stringLimit, layoutLength}
 use Rattle.row.specs.Rows.{Row, fits, allFit, texts}
 use Rattle.row.specs.Sets.{flat, zeros, encode, decode, Within, isEncoding}
@@ -29,7 +30,7 @@ use Rattle.resolve.proofs.ResolveLaws.{fault-append}
 -- ---- the numbers of good rows
 
 pub record Numbered (r : Row) : Type 0 where
-  pub position : r .position < 32768
+  pub position : r .position < longest
   pub size : goodSize (r .kind) (r .size) ≡ true
   pub note : goodNote (r .kind) (r .note) ≡ true
   pub precision : goodPrecision (r .kind) (r .size) (r .precision) ≡ true
@@ -41,7 +42,7 @@ numbered r e =
     let a = and-true _ (goodDecimal (r .note) (r .precision) (r .scale)) e in
     let b = and-true _ (goodPrecision (r .kind) (r .size) (r .precision)) (a .0) in
     let c = and-true _ (goodNote (r .kind) (r .note)) (b .0) in
-    let d = and-true (ltb (r .position) 32768) (goodSize (r .kind) (r .size)) (c .0) in
+    let d = and-true (ltb (r .position) longest) (goodSize (r .kind) (r .size)) (c .0) in
     record { position = ltb-true _ _ (d .0); size = d .1; note = c .1; precision = b .1; decimal = a .1 }
 
 -- ---- they fit their bytes

@@ -8,6 +8,7 @@ use Rattle.ground.specs.Bytes.{same}
 use Rattle.decimals.specs.Limits.{limitOf}
 use Rattle.name.specs.Name.{isEmpty, isSimple, isDotted, isReserved}
 use Rattle.name.specs.Full.{isShort}
+use Rattle.json.specs.Json.{longest}
 use Rattle.row.specs.Rows.{Row}
 use Rattle.row.specs.declared.kind.Kind.{Kind}
 use Rattle.row.specs.declared.kind.Kind.the-variants.{Bytes, Reference, Union, Record, Enum, Fixed, Field, Symbol, Alias, FieldAlias}
@@ -51,7 +52,7 @@ goodPrecision kind size precision = cond (isKind Fixed kind) (leb precision (lim
 
 unfoldable pub goodNumbers : Row → Bool
 goodNumbers r =
-    ltb (r .position) 32768
+    ltb (r .position) longest
     && goodSize (r .kind) (r .size)
     && goodNote (r .kind) (r .note)
     && goodPrecision (r .kind) (r .size) (r .precision)

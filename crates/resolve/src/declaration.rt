@@ -4,6 +4,7 @@ use crate::kinds::is_schema;
 use crate::numbers::good_numbers;
 use crate::strings::good_text;
 use crate::tree::good_parts;
+use chains::SLOTS;
 use row::read::depth_at;
 use row::read::kind_number;
 use row::read::string_of;
@@ -100,7 +101,7 @@ pub fn is_declaration(mem: &[u8], start: usize, n: usize) -> bool
     requires { ⌜ (length (now mem) ≡ layoutLength) × (start + n ≤ rowLimit) ⌝ }
     ensures { λ r. ⌜ r ≡ isDeclaration (rowsFrom (now (mem .entry)) n start) ⌝ }
 {
-    let mut first: [u16; 2048] = [0; 2048];
-    let mut next: [u16; 2048] = [0; 2048];
+    let mut first: [u16; SLOTS] = [0; SLOTS];
+    let mut next: [u16; SLOTS] = [0; SLOTS];
     is_declaration_by(mem, start, n, &mut first, &mut next)
 }

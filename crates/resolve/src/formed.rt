@@ -2,6 +2,7 @@
 use crate::Resolution;
 use crate::declaration::is_declaration_by;
 use crate::names::first_fault;
+use chains::SLOTS;
 use row::read::declarations;
 use row::read::rows_before;
 use row::read::rows_of;
@@ -23,8 +24,8 @@ fn are_declarations(mem: &[u8], n: usize) -> bool
     requires { ⌜ (length (now mem) ≡ layoutLength) × (n ≡ countIn (now mem)) × (n ≤ declarationLimit) × (rowsBefore (now mem) n ≤ rowLimit) ⌝ }
     ensures { λ r. ⌜ r ≡ every isDeclaration (decode (now (mem .entry))) ⌝ }
 {
-    let mut first: [u16; 2048] = [0; 2048];
-    let mut next: [u16; 2048] = [0; 2048];
+    let mut first: [u16; SLOTS] = [0; SLOTS];
+    let mut next: [u16; SLOTS] = [0; SLOTS];
     let mut start = 0;
     let mut place = 0;
     while place < n {

@@ -4,6 +4,7 @@ use crate::kinds::is_definition;
 use crate::kinds::is_kind;
 use answer::Fault;
 use answer::Why;
+use chains::SLOTS;
 use chains::at;
 use chains::enter;
 use chains::mark;
@@ -175,8 +176,8 @@ pub fn first_fault(set: &[u8], earlier: usize, from: &[u8], start: usize, n: usi
     requires { ⌜ (length (now set) ≡ layoutLength) × (earlier ≤ rowLimit) × (length (now from) ≡ layoutLength) × (start + n ≤ rowLimit) ⌝ }
     ensures { λ r. ⌜ r ≡ faultIn (rowsFrom (now (set .entry)) earlier 0) (rowsFrom (now (from .entry)) n start) ⌝ }
 {
-    let mut first: [u16; 2048] = [0; 2048];
-    let mut next: [u16; 2048] = [0; 2048];
+    let mut first: [u16; SLOTS] = [0; SLOTS];
+    let mut next: [u16; SLOTS] = [0; SLOTS];
     enter_rows(set, earlier, &mut first, &mut next);
     let mut passed = 0;
     while passed < n {

@@ -1,6 +1,7 @@
 // The numbers that a row keeps, by its kind.
 use crate::kinds::is_kind;
 use decimals::limit;
+use json::Scan;
 use row::Kind;
 use row::read::note_at;
 use row::read::position_at;
@@ -66,7 +67,7 @@ pub fn good_numbers(mem: &[u8], kind: u8, i: usize) -> bool
     requires { ⌜ (length (now mem) ≡ layoutLength) × (i < rowLimit) × (kind ≡ kindNumber (entryAt (now mem) i .kind)) ⌝ }
     ensures { λ r. ⌜ r ≡ goodNumbers (rowAt (now (mem .entry)) i) ⌝ }
 {
-    if 32768 <= position_at(mem, i) {
+    if Scan::TEXT <= position_at(mem, i) {
         return false;
     }
     let size = size_at(mem, i);

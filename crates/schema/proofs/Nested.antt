@@ -41,7 +41,7 @@ use Rattle.rules.specs.declared.standing.Standing.the-variants.{MemberOf}
 use Rattle.form.specs.Checks.{fault}
 use Rattle.form.specs.Spots.{onSpot, isObject, asText, asArray, aliasesIn, objectsAmong, fieldsIn}
 use Rattle.form.specs.Names.{simpleCheck}
-use Rattle.form.specs.Forms.{wordKind, formOf, noMembers, foundOf}
+use Rattle.form.specs.Forms.{wordKind, formOf, noMembers, foundOf, mostNested}
 use Rattle.form.specs.declared.note.Plain.the-variants as over
 use Rattle.form.specs.Notes.{noted, noteOf, isDecimal}
 use Rattle.rules.specs.Fields.{fieldNamesCheck}
@@ -251,11 +251,11 @@ module _ (schema : ℕ → ℕ → Out) (t : List ℕ) (d f : ℕ) {o : Members}
 -- ---- the whole
 
 -- a text that was scanned is not too long
-pub scanned-short : (t : List ℕ) {r : Scan} → r ≡ scanned t → r ≡ Whole → length t ≤ 32768
+pub scanned-short : (t : List ℕ) {r : Scan} → r ≡ scanned t → r ≡ Whole → length t ≤ longest
 unfolding scanned
 scanned-short t e g = go (ltb longest (length t)) refl (sym e ∙ g)
   where
-    go : (b : Bool) → ltb longest (length t) ≡ b → cond b (json.fault TextTooLong longest) (verdict t) ≡ Whole → length t ≤ 32768
+    go : (b : Bool) → ltb longest (length t) ≡ b → cond b (json.fault TextTooLong longest) (verdict t) ≡ Whole → length t ≤ longest
     go true f h = let z : _≡_ {A = ℕ} 0 1 = cc in absurd (omega arith)
     go false f h = ltb-false longest (length t) f
 
@@ -269,8 +269,8 @@ module _ (t : List ℕ) {r : Scan} (e : r ≡ scanned t) {m m′ : List ℕ} {c 
   declared-rows g k = rw (← e, g) k
 
 pub rows-walked : (t : List ℕ) {m m′ : List ℕ} {c n : Counts} {p : ℕ} {w : Walked} → p ≡ valueStart t → n ≡ c
-    → Did m n m′ w (schemaOf 65 t (within []) 0 p) → Did m c m′ w (rowsOf t)
+    → Did m n m′ w (schemaOf mostNested t (within []) 0 p) → Did m c m′ w (rowsOf t)
 unfolding rowsOf
 rows-walked t {m} {m′} {c} {n} {p} {w} i j k =
-    subst (λ (y : Counts). Did m y m′ w (schemaOf 65 t (within []) 0 (valueStart t))) j
-    (subst (λ (y : ℕ). Did m n m′ w (schemaOf 65 t (within []) 0 y)) i k)
+    subst (λ (y : Counts). Did m y m′ w (schemaOf mostNested t (within []) 0 (valueStart t))) j
+    (subst (λ (y : ℕ). Did m n m′ w (schemaOf mostNested t (within []) 0 y)) i k)

@@ -12,7 +12,7 @@ use Rattle.ground.specs.Ascii.{ascii}
 use Rattle.ground.specs.Bytes.{byteAt, same}
 use Rattle.ground.proofs.Laws.{never, length-store}
 use Rattle.name.specs.Name.{every, isEmpty, isSimple, isDotted, isName, startsWithDot, parts}
-use Rattle.name.specs.Full.{isShort}
+use Rattle.name.specs.Full.{keptLimit, isShort}
 use Rattle.row.specs.Kinds.{kindNumber}
 use Rattle.row.specs.declared.kind.Kind.the-variants.{Reference}
 use Rattle.view.specs.Strings.{bytesFrom, stringAt}
@@ -34,7 +34,7 @@ use Rattle.form.specs.declared.forms.Form.the-variants as form
 use Rattle.form.specs.Checks.{fault, must, _then_}
 use Rattle.form.specs.Spots.{onSpot, isText}
 use Rattle.form.specs.Names.{notAName, kept, unreserved, simpleCheck, fullAt, referenceCheck, aliasCheck, namespaceCheck, definedAt, definitionCheck, named, keptIn}
-use Rattle.form.specs.Forms.{wordKind, objectForm, formBy, formWithin, formOf}
+use Rattle.form.specs.Forms.{wordKind, objectForm, formBy, formWithin, formOf, mostNested}
 use Rattle.form.proofs.Laws.{must-fine, then-fine, named-kept, kept-copied}
 
 -- ---- a string that is not empty has its quote
@@ -66,9 +66,9 @@ named-within : (t : List ℕ) (q : ℕ) (c : Check) → (must (isName (stringAt 
 named-within t q c e =
     string-within t q (name-some (stringAt t q) (must-fine (isName (stringAt t q)) (notAName isName t q) (then-fine (must (isName (stringAt t q)) (notAName isName t q)) c e .0)))
 
-kept-short : (s : List ℕ) (q : ℕ) → kept s q ≡ Fine → length s ≤ 255
+kept-short : (s : List ℕ) (q : ℕ) → kept s q ≡ Fine → length s ≤ keptLimit
 unfolding isShort
-kept-short s q e = leb-true (length s) 255 (must-fine (leb (length s) 255) (fault StringTooLong q) e)
+kept-short s q e = leb-true (length s) keptLimit (must-fine (leb (length s) keptLimit) (fault StringTooLong q) e)
 
 last-fine : (a b : Check) → (a then b) ≡ Fine → b ≡ Fine
 last-fine a b e = then-fine a b e .1
@@ -76,7 +76,7 @@ last-fine a b e = then-fine a b e .1
 -- a string, of which s is the full name, that passed its checks
 pub record Passed (t s : List ℕ) (q : ℕ) : Type 0 where
   pub within : q < length t
-  pub short : length s ≤ 255
+  pub short : length s ≤ keptLimit
 
 module _ (t : List ℕ) (q : ℕ) where
   pub word-within : eqb (kindNumber (wordKind (stringAt t q))) (kindNumber Reference) ≡ false → q < length t
@@ -120,17 +120,17 @@ module _ (t : List ℕ) (q : ℕ) where
 pub record Held (t s : List ℕ) (q n : ℕ) (check : Check) (buffer : List ℕ) : Type 0 where
   pub fine : check ≡ Fine
   pub within : q < length t
-  pub short : length s ≤ 255
+  pub short : length s ≤ keptLimit
   pub room : n ≤ length buffer
   pub front : take (n - 0) (drop 0 buffer) ≡ s
-  pub long : length (take (n - 0) (drop 0 buffer)) ≤ 255
+  pub long : length (take (n - 0) (drop 0 buffer)) ≤ keptLimit
 
 kept-length : (check : Check) (m s : List ℕ) → length (keptIn m check s) ≡ length m
 kept-length Fine m s = length-store m 0 s
 kept-length (Bad f) m s = refl
 
 held : (t s m : List ℕ) (q : ℕ) (check : Check) {m′ : List ℕ} {r : Named} {n : ℕ} → (check ≡ Fine → Passed t s q)
-    → (r ≡ named check s) × (m′ ≡ keptIn m check s) → r ≡ Kept n → length m′ ≡ 255 → Held t s q n check m′
+    → (r ≡ named check s) × (m′ ≡ keptIn m check s) → r ≡ Kept n → length m′ ≡ keptLimit → Held t s q n check m′
 held t s m q check {m′} {r} {n} p e g l =
     let a = named-kept check s (sym g ∙ e .0) in
     let b = p (a .0) in
@@ -139,16 +139,16 @@ held t s m q check {m′} {r} {n} p e g l =
 
 module _ (t namespace m : List ℕ) (q : ℕ) {m′ : List ℕ} {r : Named} {n : ℕ} where
   pub reference-held : (r ≡ named (referenceCheck t namespace q) (fullAt t namespace q)) × (m′ ≡ keptIn m (referenceCheck t namespace q) (fullAt t namespace q))
-      → r ≡ Kept n → length m′ ≡ 255 → Held t (fullAt t namespace q) q n (referenceCheck t namespace q) m′
+      → r ≡ Kept n → length m′ ≡ keptLimit → Held t (fullAt t namespace q) q n (referenceCheck t namespace q) m′
   reference-held e g l = held t (fullAt t namespace q) m q (referenceCheck t namespace q) (reference-passed t q namespace) e g l
 
   pub alias-held : (r ≡ named (aliasCheck t namespace q) (fullAt t namespace q)) × (m′ ≡ keptIn m (aliasCheck t namespace q) (fullAt t namespace q))
-      → r ≡ Kept n → length m′ ≡ 255 → Held t (fullAt t namespace q) q n (aliasCheck t namespace q) m′
+      → r ≡ Kept n → length m′ ≡ keptLimit → Held t (fullAt t namespace q) q n (aliasCheck t namespace q) m′
   alias-held e g l = held t (fullAt t namespace q) m q (aliasCheck t namespace q) (alias-passed t q namespace) e g l
 
   pub definition-held : (o : Members) → (r ≡ named (definitionCheck t namespace o q) (definedAt t namespace o q))
       × (m′ ≡ keptIn m (definitionCheck t namespace o q) (definedAt t namespace o q))
-      → r ≡ Kept n → length m′ ≡ 255 → Held t (definedAt t namespace o q) q n (definitionCheck t namespace o q) m′
+      → r ≡ Kept n → length m′ ≡ keptLimit → Held t (definedAt t namespace o q) q n (definitionCheck t namespace o q) m′
   definition-held o e g l = held t (definedAt t namespace o q) m q (definitionCheck t namespace o q) (definition-passed t q namespace o) e g l
 
 -- ---- the bracket of an array, a map or a union stands within the text
@@ -199,7 +199,7 @@ module _ (t : List ℕ) where
   form-placed (suc n) p = by-placed (formWithin n t) (form-placed n) p (shapeAt t p) refl
 
   placed : {f : Form} (p : ℕ) → formOf t p ≡ f → Placed t f
-  placed p e = rw e at (form-placed 65 p)
+  placed p e = rw e at (form-placed mostNested p)
 
   pub array-within : {q : ℕ} (p : ℕ) → formOf t p ≡ form.ArrayOf q → q < length t
   array-within p e = placed p e

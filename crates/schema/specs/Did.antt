@@ -9,6 +9,7 @@ use lib.ListN.{length, take, drop}
 use Rattle.answer.specs.declared.counts.Counts.{Counts}
 use Rattle.answer.specs.declared.refusal.Why.the-variants.{NameMissing, SymbolsMissing}
 use Rattle.name.specs.Name.{namespacePart}
+use Rattle.json.specs.Json.{longest}
 use Rattle.row.specs.Kinds.{kindNumber}
 use Rattle.row.specs.Rows.{rowOf}
 use Rattle.row.specs.declared.kind.Kind.{Kind}
@@ -25,7 +26,7 @@ use Rattle.rules.specs.declared.standing.Standing.{Standing}
 use Rattle.form.specs.Checks.{_then_}
 use Rattle.form.specs.Spots.{onSpot, isObject, asText, asArray, aliasesIn}
 use Rattle.form.specs.Names.{simpleCheck, definedAt, definitionCheck}
-use Rattle.form.specs.Forms.{wordKind}
+use Rattle.form.specs.Forms.{wordKind, mostNested}
 use Rattle.form.specs.declared.note.Plain.the-variants as over
 use Rattle.form.specs.Notes.{noted, noteOf}
 use Rattle.rules.specs.Symbols.{symbolsCheck, defaultCheck}
@@ -111,5 +112,5 @@ elementRows schema t d p = cond (isObject (shapeAt t p)) (fieldRows schema t d p
 
 -- what a walk asks: each schema in a schema is at most two deeper
 pub record Asks (t : List ℕ) (depth left : ℕ) : Type 0 where
-  pub short : length t ≤ 32768
-  pub deep : depth + 2 * left ≤ 130
+  pub short : length t ≤ longest
+  pub deep : depth + 2 * left ≤ 2 * mostNested

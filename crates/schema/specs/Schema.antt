@@ -29,7 +29,7 @@ use Rattle.rules.specs.declared.standing.Standing.the-variants.{Alone, MemberOf
 use Rattle.form.specs.Checks.{fault, _then_}
 use Rattle.form.specs.Spots.{onSpot, asText, asArray, aliasesIn, fieldsIn}
 use Rattle.form.specs.Names.{simpleCheck, fullAt, referenceCheck, aliasCheck, definedAt, definitionCheck}
-use Rattle.form.specs.Forms.{wordKind, formOf}
+use Rattle.form.specs.Forms.{wordKind, formOf, mostNested}
 use Rattle.form.specs.Notes.{onSize, noted, noteOf}
 use Rattle.rules.specs.Unions.{called, unnamed, unionCheck}
 use Rattle.rules.specs.Fields.{fieldNamesCheck}
@@ -189,9 +189,9 @@ unfoldable pub schemaOf : ℕ → List ℕ → Around → ℕ → ℕ → Out
 schemaOf zero t a d p = no NestedTooDeep p
 schemaOf (suc n) t a d p = schemaBy (schemaOf n t) t a d (formOf t p)
 
--- the rows of a declaration that was scanned. Brackets nest at most 64, so 65 schemas are enough
+-- the rows of a declaration that was scanned
 unfoldable pub rowsOf : List ℕ → Out
-rowsOf t = schemaOf 65 t (within []) 0 (valueStart t)
+rowsOf t = schemaOf mostNested t (within []) 0 (valueStart t)
 
 -- a declaration of any bytes: the scan's fault, if it has one, before all
 abbrev pub onScan : Scan → Out → Out

@@ -16,6 +16,8 @@ use form::first_alias;
 use form::names::definition;
 use form::note::Note;
 use form::note::Plain;
+use json::Scan;
+use name::Full;
 use name::namespace_part;
 use row::Entry;
 use row::Kind;
@@ -30,6 +32,8 @@ use view::Spot;
 use view::size_literal;
 ghost use Prim.Native.Nat.{_+_, _≤_, _<_};
 ghost use lib.ListN.{length};
+ghost use Rattle.name.specs.Full.{keptLimit};
+ghost use Rattle.json.specs.Json.{longest};
 ghost use Rattle.schema.specs.Schema.{enumRows, fixedRows};
 ghost use Rattle.schema.specs.Did.{Did, Titled, around, headed, headRows, symbolsRows};
 ghost use Rattle.rules.specs.Unions.{nameOf};
@@ -47,9 +51,9 @@ fn put_definition(
     aliases: Spot,
     draft: &mut [u8],
     counts: Counts,
-    word: &mut [u8; 32768],
+    word: &mut [u8; Scan::TEXT],
 ) -> Walked
-    requires { ⌜ (length (now text) ≤ 32768) × (length (now full) ≤ 255) × (row .depth < 65535) × Known (now text) (now ends) ⌝ }
+    requires { ⌜ (length (now text) ≤ longest) × (length (now full) ≤ keptLimit) × (row .depth < 65535) × Known (now text) (now ends) ⌝ }
     ensures { λ r. ⌜ Did (now (draft .entry)) counts (now (draft .exit)) r (headed (now (text .entry)) (around (now (namespace .entry)) standing) row (now (full .entry)) aliases) ⌝ }
 {
     match new_name(text, ends, namespace, standing, full, word) {
@@ -77,8 +81,8 @@ pub(crate) fn define(
     text: &[u8],
     ends: &[u16],
     namespace: &[u8],
-    word: &mut [u8; 32768],
-    full: &mut [u8; 255],
+    word: &mut [u8; Scan::TEXT],
+    full: &mut [u8; Full::LONGEST],
     draft: &mut [u8],
     counts: Counts,
     standing: Standing,
@@ -89,7 +93,7 @@ pub(crate) fn define(
     size: u64,
     note: Note,
 ) -> Defined
-    requires { ⌜ (length (now text) ≤ 32768) × (depth < 65535) × Known (now text) (now ends) ⌝ }
+    requires { ⌜ (length (now text) ≤ longest) × (depth < 65535) × Known (now text) (now ends) ⌝ }
     ensures { λ r. ⌜ Titled (now (draft .entry)) counts (now (draft .exit)) r (now (full .exit)) (nameOf (now (text .entry)) (now (namespace .entry)) members) (headRows (now (text .entry)) (around (now (namespace .entry)) standing) kind depth at members size note) ⌝ }
 {
     let name = members.name;
@@ -135,10 +139,10 @@ fn put_checked_symbols(
     members: Members,
     draft: &mut [u8],
     counts: Counts,
-    word: &mut [u8; 32768],
+    word: &mut [u8; Scan::TEXT],
     table: &mut [u64],
 ) -> Walked
-    requires { ⌜ (length (now text) ≤ 32768) × Known (now text) (now ends) × Sized (now table) ⌝ }
+    requires { ⌜ (length (now text) ≤ longest) × Known (now text) (now ends) × Sized (now table) ⌝ }
     ensures { λ r. ⌜ Did (now (draft .entry)) counts (now (draft .exit)) r (symbolsRows (now (text .entry)) depth at members) ⌝ }
 {
     let symbols = members.symbols;
@@ -168,13 +172,13 @@ pub(crate) fn put_enum(
     members: Members,
     draft: &mut [u8],
     counts: Counts,
-    word: &mut [u8; 32768],
+    word: &mut [u8; Scan::TEXT],
     table: &mut [u64],
 ) -> Walked
-    requires { ⌜ (length (now text) ≤ 32768) × (depth < 65535) × Known (now text) (now ends) × Sized (now table) ⌝ }
+    requires { ⌜ (length (now text) ≤ longest) × (depth < 65535) × Known (now text) (now ends) × Sized (now table) ⌝ }
     ensures { λ r. ⌜ Did (now (draft .entry)) counts (now (draft .exit)) r (enumRows (now (text .entry)) (around (now (namespace .entry)) standing) depth at members) ⌝ }
 {
-    let mut full: [u8; 255] = [0; 255];
+    let mut full: [u8; Full::LONGEST] = [0; Full::LONGEST];
     let none = Note {
         note: 0,
         precision: 0,
@@ -215,9 +219,9 @@ pub(crate) fn put_fixed(
     members: Members,
     draft: &mut [u8],
     counts: Counts,
-    word: &mut [u8; 32768],
+    word: &mut [u8; Scan::TEXT],
 ) -> Walked
-    requires { ⌜ (length (now text) ≤ 32768) × (depth < 65535) × Known (now text) (now ends) ⌝ }
+    requires { ⌜ (length (now text) ≤ longest) × (depth < 65535) × Known (now text) (now ends) ⌝ }
     ensures { λ r. ⌜ Did (now (draft .entry)) counts (now (draft .exit)) r (fixedRows (now (text .entry)) (around (now (namespace .entry)) standing) depth at members) ⌝ }
 {
     let spot = members.size;
@@ -233,7 +237,7 @@ pub(crate) fn put_fixed(
             at: v,
         }),
         Size::Value(size) => {
-            let mut full: [u8; 255] = [0; 255];
+            let mut full: [u8; Full::LONGEST] = [0; Full::LONGEST];
             let note = decimal_note(text, ends, members, Plain::Fixed(size));
             match define(
                 text,

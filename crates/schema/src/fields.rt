@@ -9,6 +9,7 @@ use form::Check;
 use form::as_text;
 use form::first_alias;
 use form::simple_check;
+use json::Scan;
 use row::Kind;
 use rules::field_names;
 use view::Members;
@@ -16,6 +17,7 @@ use view::Spot;
 ghost use mathlib.Core.List.{List, []};
 ghost use Prim.Native.Nat.{ℕ, _≤_, _<_};
 ghost use lib.ListN.{length};
+ghost use Rattle.json.specs.Json.{longest};
 ghost use Rattle.rules.specs.Fields.{fieldNamesCheck};
 ghost use Rattle.form.specs.Spots.{fieldsIn};
 ghost use Rattle.schema.specs.Out.{read, after};
@@ -32,9 +34,9 @@ pub(crate) fn put_field_head(
     members: Members,
     draft: &mut [u8],
     counts: Counts,
-    word: &mut [u8; 32768],
+    word: &mut [u8; Scan::TEXT],
 ) -> Walked
-    requires { ⌜ (length (now text) ≤ 32768) × (depth < 65535) × Known (now text) (now ends) ⌝ }
+    requires { ⌜ (length (now text) ≤ longest) × (depth < 65535) × Known (now text) (now ends) ⌝ }
     ensures { λ r. ⌜ Did (now (draft .entry)) counts (now (draft .exit)) r (fieldHead (now (text .entry)) depth at members) ⌝ }
 {
     let name = members.name;

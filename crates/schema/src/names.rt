@@ -6,6 +6,8 @@ use form::Named;
 use form::alias;
 use form::note::Note;
 use form::simple_check;
+use json::Scan;
+use name::Full;
 use row::Entry;
 use row::Kind;
 use row::write::push;
@@ -17,6 +19,7 @@ use view::string_copy;
 ghost use mathlib.Core.Path.{_≡_};
 ghost use Prim.Native.Nat.{_≤_, _<_};
 ghost use lib.ListN.{length};
+ghost use Rattle.json.specs.Json.{longest};
 ghost use Rattle.row.specs.Memory.{counted, pushed};
 ghost use Rattle.view.specs.Elements.{elementsAt, elements};
 ghost use Rattle.view.specs.Strings.{stringAt};
@@ -73,9 +76,9 @@ pub(crate) fn put_string(
     at: usize,
     draft: &mut [u8],
     counts: Counts,
-    word: &mut [u8; 32768],
+    word: &mut [u8; Scan::TEXT],
 ) -> Counts
-    requires { ⌜ (length (now text) ≤ 32768) × (at < 65536) × Known (now text) (now ends) ⌝ }
+    requires { ⌜ (length (now text) ≤ longest) × (at < 65536) × Known (now text) (now ends) ⌝ }
     ensures { λ r. ⌜ (r ≡ counted counts (length (stringAt (now (text .entry)) at)))
         × (now (draft .exit) ≡ pushed (now (draft .entry)) counts (rowWith kind depth at (stringAt (now (text .entry)) at) 0 (noted 0))) ⌝ }
 {
@@ -96,14 +99,14 @@ fn put_alias(
     text: &[u8],
     ends: &[u16],
     namespace: &[u8],
-    word: &mut [u8; 32768],
-    full: &mut [u8; 255],
+    word: &mut [u8; Scan::TEXT],
+    full: &mut [u8; Full::LONGEST],
     draft: &mut [u8],
     counts: Counts,
     depth: u16,
     at: usize,
 ) -> Walked
-    requires { ⌜ (length (now text) ≤ 32768) × Known (now text) (now ends) ⌝ }
+    requires { ⌜ (length (now text) ≤ longest) × Known (now text) (now ends) ⌝ }
     ensures { λ r. ⌜ Did (now (draft .entry)) counts (now (draft .exit)) r (aliasRows (now (text .entry)) (now (namespace .entry)) depth at) ⌝ }
 {
     match alias(text, ends, namespace, at, word, full) {
@@ -125,12 +128,12 @@ pub(crate) fn put_aliases(
     first: Spot,
     draft: &mut [u8],
     counts: Counts,
-    word: &mut [u8; 32768],
+    word: &mut [u8; Scan::TEXT],
 ) -> Walked
-    requires { ⌜ (length (now text) ≤ 32768) × Known (now text) (now ends) ⌝ }
+    requires { ⌜ (length (now text) ≤ longest) × Known (now text) (now ends) ⌝ }
     ensures { λ r. ⌜ Did (now (draft .entry)) counts (now (draft .exit)) r (each (aliasRows (now (text .entry)) (now (namespace .entry)) depth) (elementsAt (now (text .entry)) first)) ⌝ }
 {
-    let mut full: [u8; 255] = [0; 255];
+    let mut full: [u8; Full::LONGEST] = [0; Full::LONGEST];
     let mut sum = counts;
     let mut spot = first;
     loop {
@@ -156,9 +159,9 @@ fn put_field_alias(
     at: usize,
     draft: &mut [u8],
     counts: Counts,
-    word: &mut [u8; 32768],
+    word: &mut [u8; Scan::TEXT],
 ) -> Walked
-    requires { ⌜ (length (now text) ≤ 32768) × Known (now text) (now ends) ⌝ }
+    requires { ⌜ (length (now text) ≤ longest) × Known (now text) (now ends) ⌝ }
     ensures { λ r. ⌜ Did (now (draft .entry)) counts (now (draft .exit)) r (fieldAliasRows (now (text .entry)) depth at) ⌝ }
 {
     match simple_check(text, ends, at, word) {
@@ -178,9 +181,9 @@ pub(crate) fn put_field_aliases(
     first: Spot,
     draft: &mut [u8],
     counts: Counts,
-    word: &mut [u8; 32768],
+    word: &mut [u8; Scan::TEXT],
 ) -> Walked
-    requires { ⌜ (length (now text) ≤ 32768) × Known (now text) (now ends) ⌝ }
+    requires { ⌜ (length (now text) ≤ longest) × Known (now text) (now ends) ⌝ }
     ensures { λ r. ⌜ Did (now (draft .entry)) counts (now (draft .exit)) r (each (fieldAliasRows (now (text .entry)) depth) (elementsAt (now (text .entry)) first)) ⌝ }
 {
     let mut sum = counts;
@@ -208,9 +211,9 @@ pub(crate) fn put_symbols(
     array: usize,
     draft: &mut [u8],
     counts: Counts,
-    word: &mut [u8; 32768],
+    word: &mut [u8; Scan::TEXT],
 ) -> Walked
-    requires { ⌜ (length (now text) ≤ 32768) × Known (now text) (now ends) ⌝ }
+    requires { ⌜ (length (now text) ≤ longest) × Known (now text) (now ends) ⌝ }
     ensures { λ r. ⌜ Did (now (draft .entry)) counts (now (draft .exit)) r (each (symbolRows (now (text .entry)) depth) (elements (now (text .entry)) array)) ⌝ }
 {
     let mut sum = counts;

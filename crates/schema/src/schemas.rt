@@ -17,6 +17,8 @@ use form::as_array;
 use form::find;
 use form::is_object;
 use form::note::Note;
+use json::Scan;
+use name::Full;
 use name::namespace_part;
 use row::Kind;
 use rules::Standing;
@@ -48,7 +50,7 @@ pub(crate) fn put_schema(
     left: usize,
     draft: &mut [u8],
     counts: Counts,
-    word: &mut [u8; 32768],
+    word: &mut [u8; Scan::TEXT],
     table: &mut [u64],
 ) -> Walked
     requires { ⌜ (Asks (now text) depth left) × Known (now text) (now ends) × Sized (now table) ⌝ }
@@ -66,7 +68,7 @@ pub(crate) fn put_schema(
     let items = members.items;
     let values = members.values;
     let less = left - 1;
-    let mut full: [u8; 255] = [0; 255];
+    let mut full: [u8; Full::LONGEST] = [0; Full::LONGEST];
     match form {
         Form::Wrong(f) => Walked::Bad(f),
         Form::Word(q, _) => put_word(
@@ -184,7 +186,7 @@ fn put_part(
     left: usize,
     draft: &mut [u8],
     counts: Counts,
-    word: &mut [u8; 32768],
+    word: &mut [u8; Scan::TEXT],
     table: &mut [u64],
 ) -> Walked
     requires { ⌜ Asks (now text) (depth + 1) left × (at < 65536) × Known (now text) (now ends) × Sized (now table) ⌝ }
@@ -223,7 +225,7 @@ fn put_union(
     left: usize,
     draft: &mut [u8],
     counts: Counts,
-    word: &mut [u8; 32768],
+    word: &mut [u8; Scan::TEXT],
     table: &mut [u64],
 ) -> Walked
     requires { ⌜ Asks (now text) (depth + 1) left × (at < 65536) × Known (now text) (now ends) × Sized (now table) ⌝ }
@@ -267,8 +269,8 @@ fn put_record(
     text: &[u8],
     ends: &[u16],
     namespace: &[u8],
-    word: &mut [u8; 32768],
-    full: &mut [u8; 255],
+    word: &mut [u8; Scan::TEXT],
+    full: &mut [u8; Full::LONGEST],
     draft: &mut [u8],
     counts: Counts,
     standing: Standing,
@@ -339,7 +341,7 @@ fn put_fields(
     left: usize,
     draft: &mut [u8],
     counts: Counts,
-    word: &mut [u8; 32768],
+    word: &mut [u8; Scan::TEXT],
     table: &mut [u64],
 ) -> Walked
     requires { ⌜ (Asks (now text) (depth + 1) left) × Known (now text) (now ends) × Sized (now table) ⌝ }
@@ -382,7 +384,7 @@ fn put_field(
     left: usize,
     draft: &mut [u8],
     counts: Counts,
-    word: &mut [u8; 32768],
+    word: &mut [u8; Scan::TEXT],
     table: &mut [u64],
 ) -> Walked
     requires { ⌜ (Asks (now text) (depth + 1) left) × Known (now text) (now ends) × Sized (now table) ⌝ }

@@ -10,6 +10,8 @@ use form::note::Note;
 use form::note::Plain;
 use form::reference;
 use form::word_kind;
+use json::Scan;
+use name::Full;
 use row::Kind;
 use row::write::push;
 use rules::Standing;
@@ -21,6 +23,7 @@ ghost use mathlib.Core.Bool.{cond};
 ghost use Prim.Native.Nat.{_≤_, _<_};
 ghost use lib.Dec.{eqb};
 ghost use lib.ListN.{length};
+ghost use Rattle.json.specs.Json.{longest};
 ghost use Rattle.row.specs.Kinds.{kindNumber};
 ghost use Rattle.row.specs.declared.kind.Kind.the-variants.{Bytes};
 ghost use Rattle.form.specs.Notes.{noted, noteOf};
@@ -34,15 +37,15 @@ fn put_reference(
     text: &[u8],
     ends: &[u16],
     namespace: &[u8],
-    word: &mut [u8; 32768],
-    full: &mut [u8; 255],
+    word: &mut [u8; Scan::TEXT],
+    full: &mut [u8; Full::LONGEST],
     draft: &mut [u8],
     counts: Counts,
     standing: Standing,
     depth: u16,
     at: usize,
 ) -> Walked
-    requires { ⌜ (length (now text) ≤ 32768) × Known (now text) (now ends) ⌝ }
+    requires { ⌜ (length (now text) ≤ longest) × Known (now text) (now ends) ⌝ }
     ensures { λ r. ⌜ Did (now (draft .entry)) counts (now (draft .exit)) r (referenceRows (now (text .entry)) (around (now (namespace .entry)) standing) depth at) ⌝ }
 {
     match reference(text, ends, namespace, at, word, full) {
@@ -107,8 +110,8 @@ pub(crate) fn put_word(
     text: &[u8],
     ends: &[u16],
     namespace: &[u8],
-    word: &mut [u8; 32768],
-    full: &mut [u8; 255],
+    word: &mut [u8; Scan::TEXT],
+    full: &mut [u8; Full::LONGEST],
     draft: &mut [u8],
     counts: Counts,
     standing: Standing,
@@ -116,7 +119,7 @@ pub(crate) fn put_word(
     at: usize,
     members: Members,
 ) -> Walked
-    requires { ⌜ (length (now text) ≤ 32768) × Known (now text) (now ends) ⌝ }
+    requires { ⌜ (length (now text) ≤ longest) × Known (now text) (now ends) ⌝ }
     ensures { λ r. ⌜ Did (now (draft .entry)) counts (now (draft .exit)) r (wordWith (now (text .entry)) (around (now (namespace .entry)) standing) depth at members) ⌝ }
 {
     let kind = word_kind(text, ends, at);

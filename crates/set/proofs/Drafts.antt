@@ -34,11 +34,11 @@ use Rattle.resolve.proofs.Laws.{declaration-fits}
 
 -- ---- a text that is read
 
-scan-short : (t : List ℕ) → scanned t ≡ Whole → length t ≤ 32768
+scan-short : (t : List ℕ) → scanned t ≡ Whole → length t ≤ longest
 unfolding scanned
 scan-short t e = go (ltb longest (length t)) refl e
   where
-    go : (b : Bool) → ltb longest (length t) ≡ b → cond b (json.fault TextTooLong longest) (verdict t) ≡ Whole → length t ≤ 32768
+    go : (b : Bool) → ltb longest (length t) ≡ b → cond b (json.fault TextTooLong longest) (verdict t) ≡ Whole → length t ≤ longest
     go true f h = let o : _≡_ {A = ℕ} 0 1 = cc in absurd (omega arith)
     go false f h = ltb-false longest (length t) f
 

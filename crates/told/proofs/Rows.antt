@@ -31,7 +31,7 @@ use Rattle.form.specs.declared.note.Note.{Note}
 use Rattle.form.specs.Checks.{fault, _then_}
 use Rattle.form.specs.Spots.{onSpot, isText, asText, asArray, aliasesIn, fieldsIn}
 use Rattle.form.specs.Names.{simpleCheck, fullAt, referenceCheck, aliasCheck, definedAt, definitionCheck}
-use Rattle.form.specs.Forms.{wordKind, objectForm, formBy, formWithin, formOf}
+use Rattle.form.specs.Forms.{wordKind, objectForm, formBy, formWithin, formOf, mostNested}
 use Rattle.form.specs.declared.note.Plain.the-variants as over
 use Rattle.form.specs.Notes.{onSize, noted, noteOf}
 use Rattle.rules.specs.Unions.{called, unnamed, unionCheck}
@@ -222,4 +222,4 @@ module _ (t : List ℕ) where
   pub schema-fair : (n : ℕ) (a : Around) (d p : ℕ) → FairOut t (schemaOf n t a d p)
   unfolding schemaOf
   schema-fair zero a d p = other t NestedTooDeep p refl
-  schema-fair (suc n) a d p = schema-by (schemaOf n t) (schema-fair n) a d (formOf t p) (form-fair 65 p)
+  schema-fair (suc n) a d p = schema-by (schemaOf n t) (schema-fair n) a d (formOf t p) (form-fair mostNested p)

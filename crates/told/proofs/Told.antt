@@ -16,6 +16,7 @@ use Rattle.json.specs.declared.verdict.Scan.{Scan}
 use Rattle.json.specs.declared.verdict.Scan.the-variants.{Whole, Bad}
 use Rattle.json.proofs.Depth.{Begins, Sane, step-sane}
 use Rattle.form.specs.Checks.{fault}
+use Rattle.form.specs.Forms.{mostNested}
 use Rattle.schema.specs.Out.{refused}
 use Rattle.schema.specs.Schema.{within, rowsOf, onScan, declared}
 use Rattle.view.specs.Values.{valueStart}
@@ -59,7 +60,7 @@ module _ (t : List ℕ) where
   declared-fair = on (scanned t) scan-fair
     where
       on : (s : Scan) → FairScan s → FairOut t (onScan s (rowsOf t))
-      on Whole g = schema-fair t 65 (within []) 0 (valueStart t)
+      on Whole g = schema-fair t mostNested (within []) 0 (valueStart t)
       on (Bad f) g = g
 
 -- whatever the text

@@ -9,6 +9,7 @@ use view::Spot;
 ghost use mathlib.Core.Path.{_≡_};
 ghost use Prim.Native.Nat.{_<_, _≤_};
 ghost use lib.ListN.{length};
+ghost use Rattle.json.specs.Json.{longest};
 ghost use Rattle.view.specs.Known.{Known};
 
 fn digit(b: u8) -> u8
@@ -266,7 +267,7 @@ fn print_views(text: &[u8], ends: &[u16])
 
 // The views of a text, with a table of its ends.
 fn print_text(text: &[u8])
-    requires { ⌜ length (now text) ≤ 32768 ⌝ }
+    requires { ⌜ length (now text) ≤ longest ⌝ }
 {
     let mut table = [0u16; 1024];
     view::find_ends(text, &mut table);

@@ -1,5 +1,6 @@
 -- `schema::declare` meets its contract.
 -- Assumes nothing.
+use Rattle.json.specs.Json.{longest}
 use Rattle.schema.proofs.Nested.{scanned-short, declared-not, declared-rows}
 use Rattle.view.proofs.Known.{known-none}
 use borrow.Author.Needs.{needs}
@@ -60,7 +61,7 @@ slice-aggregate-walk-6 c = search needs
 
 walk-requires-3 : tie.Need-walk-requires-3
 walk-requires-3 c κs =
-    (scanned-short _ (c .before .before .before .before .before .before .before .scan .ensures) (c .before .before .before .before .before .enum-told .given .1), known-none _ 32768, search needs)
+    (scanned-short _ (c .before .before .before .before .before .before .before .scan .ensures) (c .before .before .before .before .before .enum-told .given .1), known-none _ longest, search needs)
 
 same-length-3 : tie.Need-same-length-3
 same-length-3 c = search needs

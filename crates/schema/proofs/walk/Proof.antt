@@ -17,9 +17,6 @@ none-requires c κs = search needs
 slice-aggregate-put-schema : tie.Need-slice-aggregate-put-schema
 slice-aggregate-put-schema c = search needs
 
-add-put-schema : tie.Need-add-put-schema
-add-put-schema c = search needs
-
 put-schema-requires : tie.Need-put-schema-requires
 put-schema-requires c κs = search needs
 
@@ -44,7 +41,6 @@ walk-spec =
     value-start-requires
     none-requires
     slice-aggregate-put-schema
-    add-put-schema
     put-schema-requires
     same-length
     same-length-2
