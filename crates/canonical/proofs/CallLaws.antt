@@ -32,7 +32,7 @@ use Rattle.canonical.specs.Calls.{Found, found, refused, refusal, rowsAt
 use Rattle.canonical.specs.declared.answers.Written.the-variants.{Length, Refused}
 use Rattle.canonical.specs.declared.answers.Print.the-variants.{Fingerprint, Refused as NoPrint}
 use Rattle.canonical.specs.Wrote.{Wrote}
-use Rattle.canonical.specs.Walk.{pieceText, textLimit}
+use Rattle.canonical.specs.Walk.{pieceText, textLimit, rowCost}
 use Rattle.rabin.specs.Rabin.{rabinOf}
 use Rattle.canonical.proofs.TextLaws.{text-short}
 use Rattle.canonical.proofs.WriteLaws.{wrote-lent}
@@ -67,7 +67,7 @@ module _ (ds : List (List Row)) (k : ℕ) (l : k < length ds) where
       omega (arith, e, length-append (texts a) (texts (rowsAt ds k) ++ texts b), length-append (texts (rowsAt ds k)) (texts b))
 
   -- by the counts of the set
-  pub set-short : length (canonicalOf (rowsAt ds k)) ≤ 64 * length (flat ds) + length (texts (flat ds))
+  pub set-short : length (canonicalOf (rowsAt ds k)) ≤ rowCost * length (flat ds) + length (texts (flat ds))
   unfolding canonicalOf
   set-short = omega (arith, text-short (length (rowsAt ds k)) (rowsAt ds k), rows-around, texts-around)
 

@@ -20,7 +20,7 @@ use Rattle.resolve.specs.WellFormed.{wellFormed}
 use Rattle.canonical.specs.Pieces.{opening, closing}
 use Rattle.canonical.specs.Canonical.{isWritten, partsOf, listed, textOf, canonicalOf}
 use Rattle.canonical.specs.Calls.{found, refused, refusal, rowsAt, textAt, writtenAt, bufferAfter}
-use Rattle.canonical.specs.Walk.{textLimit}
+use Rattle.canonical.specs.Walk.{textLimit, rowCost}
 use Rattle.canonical.proofs.TextLaws.{text-short}
 use Rattle.canonical.proofs.CallLaws.{set-short, canonical-short}
 use Rattle.canonical.proofs.SameLaws.{schema-written}
@@ -33,13 +33,13 @@ pub use Rattle.canonical.proofs.PrintLaws.{printable}
 
 -- ---- how long it is
 
--- any rows: 64 bytes for each at most, and their strings
-pub bound : (rows : List Row) → length (canonicalOf rows) ≤ 64 * length rows + length (texts rows)
+-- any rows: `rowCost` bytes for each at most, and their strings
+pub bound : (rows : List Row) → length (canonicalOf rows) ≤ rowCost * length rows + length (texts rows)
 unfolding canonicalOf
 bound rows = text-short (length rows) rows
 
 -- a declaration of a set: by the set's counts
-pub counts-bound : (ds : List (List Row)) (place : ℕ) → place < length ds → length (canonicalOf (rowsAt ds place)) ≤ 64 * length (flat ds) + length (texts (flat ds))
+pub counts-bound : (ds : List (List Row)) (place : ℕ) → place < length ds → length (canonicalOf (rowsAt ds place)) ≤ rowCost * length (flat ds) + length (texts (flat ds))
 counts-bound ds place l = set-short ds place l
 
 -- the declaration at a place of a well-formed set: 81,920 bytes at most

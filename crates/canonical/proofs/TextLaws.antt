@@ -18,6 +18,7 @@ use Rattle.canonical.specs.Decimal.{decimal}
 use Rattle.canonical.specs.Pieces.{opening, closing}
 use Rattle.canonical.specs.Canonical.{isWritten, startsAt, partsOf, listed, textOf}
 use Rattle.canonical.proofs.DecimalLaws.{decimal-short}
+use Rattle.canonical.specs.Walk.{rowCost}
 
 -- ---- one row
 
@@ -47,13 +48,13 @@ own-length FieldAlias s n = omega arith
 
 -- what rows can cost
 pub cost : List Row → ℕ
-cost rows = 64 * length rows + length (texts rows)
+cost rows = rowCost * length rows + length (texts rows)
 
 cost-none : cost [] ≡ 0
 unfolding cost texts
 cost-none = refl
 
-cost-cons : (r : Row) (rows : List Row) → cost (r ∷ rows) ≡ 64 + length (r .text) + cost rows
+cost-cons : (r : Row) (rows : List Row) → cost (r ∷ rows) ≡ rowCost + length (r .text) + cost rows
 unfolding cost texts
 cost-cons r rows = omega (arith, length-append (r .text) (texts rows))
 
@@ -101,8 +102,8 @@ text-bound (suc n) r rows =
 under-bound : (d : ℕ) (rows : List Row) → cost (under d rows) ≤ cost rows
 under-bound d rows = omega (arith, parts-bound 0 (text-bound 0) d rows)
 
--- A TEXT IS NO LONGER than 64 bytes for each row, and its strings
-pub text-short : (n : ℕ) (rows : List Row) → length (textOf n rows) ≤ 64 * length rows + length (texts rows)
+-- A TEXT IS NO LONGER than `rowCost` bytes for each row, and its strings
+pub text-short : (n : ℕ) (rows : List Row) → length (textOf n rows) ≤ rowCost * length rows + length (texts rows)
 unfolding textOf cost Bounded
 text-short zero rows = omega arith
 text-short (suc n) [] = omega arith

@@ -32,6 +32,10 @@ isUnder m end d i = ltb i end && ltb d (entryAt m i .depth)
 unfoldable pub isPart : List ℕ → ℕ → ℕ → Bool
 isPart m d i = eqb (entryAt m i .depth) (d + 1) && isWritten (entryAt m i .kind)
 
+-- a row takes at most so many bytes of a text, beside its string
+abbrev pub rowCost : ℕ
+rowCost = 64
+
 -- no text of a well-formed set is longer
 abbrev pub textLimit : ℕ
-textLimit = 64 * rowLimit + stringLimit
+textLimit = rowCost * rowLimit + stringLimit

@@ -9,8 +9,11 @@ pub enum Written {
 }
 
 impl Written {
-    // No canonical text is longer: each row takes 64 bytes at most, beside its string.
-    pub const LONGEST: usize = 64 * Counts::ROWS + Counts::STRING_BYTES;
+    // A row takes at most so many bytes, beside its string.
+    const ROW: usize = 64;
+
+    // No canonical text is longer.
+    pub const LONGEST: usize = Written::ROW * Counts::ROWS + Counts::STRING_BYTES;
 }
 
 // The canonical text's fingerprint, or a refusal.

@@ -9,7 +9,7 @@ ghost use lib.ListN.{length};
 ghost use Rattle.row.specs.Layout.{stringLimit};
 ghost use Rattle.row.specs.declared.kind.Kind.the-variants.{Fixed};
 ghost use Rattle.canonical.specs.Pieces.{quoted, named, opening, closing};
-ghost use Rattle.canonical.specs.Walk.{wordOf};
+ghost use Rattle.canonical.specs.Walk.{wordOf, rowCost};
 ghost use Rattle.canonical.specs.Wrote.{Wrote};
 
 pub(crate) fn least(a: usize, b: usize) -> usize
@@ -38,7 +38,7 @@ fn quoted(name: &[u8], part: &mut [u8]) -> usize
 
 // An object's name, then `rest`.
 fn named(name: &[u8], rest: &[u8], part: &mut [u8]) -> usize
-    requires { ⌜ (length (now name) ≤ stringLimit) × (length (now rest) ≤ 64) ⌝ }
+    requires { ⌜ (length (now name) ≤ stringLimit) × (length (now rest) ≤ rowCost) ⌝ }
     ensures { λ r. ⌜ Wrote (now (part .entry)) 0 (now (part .exit)) r (named (now (name .entry)) ++ now (rest .entry)) ⌝ }
 {
     let a = put(part, 0, b"{\"name\":\"");

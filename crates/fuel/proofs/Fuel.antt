@@ -33,7 +33,7 @@ more f h zero = refl
 more f h (suc j) = let e : mostNested + suc j ≡ suc (mostNested + j) = omega arith in ap f e ∙ h (mostNested + j) (omega arith) ∙ more f h j
 
 module _ (t : List ℕ) where
-  -- ---- in m brackets: a reader is asked only where fuel and brackets make 65, and there are at most 64 brackets
+  -- ---- in m brackets: a reader is asked only where fuel and brackets make `mostNested`, and there are at most `deepest` brackets
 
   spent : {A : Type 0} (m p : ℕ) → Deep t m p → mostNested ≤ 0 + m → A
   spent m p i h = let l = i .least in let u = i .most in absurd (omega arith)
