@@ -1,3 +1,4 @@
 pub mod Numbers
+pub mod Answers
 pub mod Places
 pub mod Limits

@@ -3,10 +3,10 @@
 mod numbers;
 
 use answer::Answer;
+use answer::Numbers;
 use canonical::Print;
 use canonical::Written;
 use ground::copy;
-use numbers::Numbers;
 use row::Layout;
 use set::Naming;
 ghost use mathlib.Core.Path.{_≡_};
@@ -16,7 +16,7 @@ ghost use Rattle.row.specs.Layout.{layoutLength};
 ghost use Rattle.set.specs.Calls.{answerOf, memoryOf, opened, added, replaced};
 ghost use Rattle.set.specs.Naming.{fullNameIn, namingOf};
 ghost use Rattle.canonical.specs.Calls.{textAt, writtenAt, lengthOf, bufferAfter, printOf};
-ghost use Rattle.dhokyurai.specs.Numbers.{ofAnswer, ofNaming, ofWritten, ofPrint, printed};
+ghost use Rattle.dhokyurai.specs.Signed.{signed};
 
 // How many bytes the memory of a set has.
 #[no_mangle]
@@ -33,13 +33,13 @@ pub extern "C" fn dhokyurai_open(
     b: &mut usize,
     c: &mut usize,
 ) -> u8
-    ensures { λ r. ⌜ (r ≡ ofAnswer (answerOf (opened (now (memory .entry)))) .number)
+    ensures { λ r. ⌜ (r ≡ answerOf (opened (now (memory .entry))) .number)
         × (now (memory .exit) ≡ memoryOf (now (memory .entry)) (opened (now (memory .entry))))
-        × (now (a .exit) ≡ ofAnswer (answerOf (opened (now (memory .entry)))) .first)
-        × (now (b .exit) ≡ ofAnswer (answerOf (opened (now (memory .entry)))) .second)
-        × (now (c .exit) ≡ ofAnswer (answerOf (opened (now (memory .entry)))) .third) ⌝ }
+        × (now (a .exit) ≡ answerOf (opened (now (memory .entry))) .first)
+        × (now (b .exit) ≡ answerOf (opened (now (memory .entry))) .second)
+        × (now (c .exit) ≡ answerOf (opened (now (memory .entry))) .third) ⌝ }
 {
-    let n = numbers::of_answer(set::open(memory));
+    let n = Numbers::of(set::open(memory));
     *a = n.first;
     *b = n.second;
     *c = n.third;
@@ -54,13 +54,13 @@ pub extern "C" fn dhokyurai_add(
     b: &mut usize,
     c: &mut usize,
 ) -> u8
-    ensures { λ r. ⌜ (r ≡ ofAnswer (answerOf (added (now (memory .entry)) (now (text .entry)))) .number)
+    ensures { λ r. ⌜ (r ≡ answerOf (added (now (memory .entry)) (now (text .entry))) .number)
         × (now (memory .exit) ≡ memoryOf (now (memory .entry)) (added (now (memory .entry)) (now (text .entry))))
-        × (now (a .exit) ≡ ofAnswer (answerOf (added (now (memory .entry)) (now (text .entry)))) .first)
-        × (now (b .exit) ≡ ofAnswer (answerOf (added (now (memory .entry)) (now (text .entry)))) .second)
-        × (now (c .exit) ≡ ofAnswer (answerOf (added (now (memory .entry)) (now (text .entry)))) .third) ⌝ }
+        × (now (a .exit) ≡ answerOf (added (now (memory .entry)) (now (text .entry))) .first)
+        × (now (b .exit) ≡ answerOf (added (now (memory .entry)) (now (text .entry))) .second)
+        × (now (c .exit) ≡ answerOf (added (now (memory .entry)) (now (text .entry))) .third) ⌝ }
 {
-    let n = numbers::of_answer(set::add(memory, text));
+    let n = Numbers::of(set::add(memory, text));
     *a = n.first;
     *b = n.second;
     *c = n.third;
@@ -76,13 +76,13 @@ pub extern "C" fn dhokyurai_replace(
     b: &mut usize,
     c: &mut usize,
 ) -> u8
-    ensures { λ r. ⌜ (r ≡ ofAnswer (answerOf (replaced (now (memory .entry)) place (now (text .entry)))) .number)
+    ensures { λ r. ⌜ (r ≡ answerOf (replaced (now (memory .entry)) place (now (text .entry))) .number)
         × (now (memory .exit) ≡ memoryOf (now (memory .entry)) (replaced (now (memory .entry)) place (now (text .entry))))
-        × (now (a .exit) ≡ ofAnswer (answerOf (replaced (now (memory .entry)) place (now (text .entry)))) .first)
-        × (now (b .exit) ≡ ofAnswer (answerOf (replaced (now (memory .entry)) place (now (text .entry)))) .second)
-        × (now (c .exit) ≡ ofAnswer (answerOf (replaced (now (memory .entry)) place (now (text .entry)))) .third) ⌝ }
+        × (now (a .exit) ≡ answerOf (replaced (now (memory .entry)) place (now (text .entry))) .first)
+        × (now (b .exit) ≡ answerOf (replaced (now (memory .entry)) place (now (text .entry))) .second)
+        × (now (c .exit) ≡ answerOf (replaced (now (memory .entry)) place (now (text .entry))) .third) ⌝ }
 {
-    let n = numbers::of_answer(set::replace(memory, place, text));
+    let n = Numbers::of(set::replace(memory, place, text));
     *a = n.first;
     *b = n.second;
     *c = n.third;
@@ -92,12 +92,12 @@ pub extern "C" fn dhokyurai_replace(
 // The full name's length; where there is no name, why. So memory is checked once for a name that is there.
 fn named(memory: &[u8], place: usize, row: usize, name: &[u8]) -> Numbers
     requires { ⌜ now name ≡ fullNameIn (now memory) place row ⌝ }
-    ensures { λ r. ⌜ r ≡ ofNaming (namingOf (now (memory .entry)) place row) ⌝ }
+    ensures { λ r. ⌜ r ≡ namingOf (now (memory .entry)) place row ⌝ }
 {
     if name.len() == 0 {
         return numbers::of_naming(set::naming_of(memory, place, row));
     }
-    numbers::accepted(name.len())
+    Numbers::accepted(name.len())
 }
 
 // The full name of a row into a buffer, as far as there is room; 255 bytes hold any.
@@ -110,10 +110,10 @@ pub extern "C" fn dhokyurai_full_name(
     a: &mut usize,
     b: &mut usize,
 ) -> u8
-    ensures { λ r. ⌜ (r ≡ ofNaming (namingOf (now (memory .entry)) place row) .number)
+    ensures { λ r. ⌜ (r ≡ namingOf (now (memory .entry)) place row .number)
         × (now (buffer .exit) ≡ store (now (buffer .entry)) 0 (fullNameIn (now (memory .entry)) place row))
-        × (now (a .exit) ≡ ofNaming (namingOf (now (memory .entry)) place row) .first)
-        × (now (b .exit) ≡ ofNaming (namingOf (now (memory .entry)) place row) .second) ⌝ }
+        × (now (a .exit) ≡ namingOf (now (memory .entry)) place row .first)
+        × (now (b .exit) ≡ namingOf (now (memory .entry)) place row .second) ⌝ }
 {
     let name = set::full_name(memory, place, row);
     copy(buffer, 0, name);
@@ -133,10 +133,10 @@ pub extern "C" fn dhokyurai_canonical(
     a: &mut usize,
     b: &mut usize,
 ) -> u8
-    ensures { λ r. ⌜ (r ≡ ofWritten (lengthOf (writtenAt (now (memory .entry)) place offset (length (now (buffer .entry))))) .number)
+    ensures { λ r. ⌜ (r ≡ lengthOf (writtenAt (now (memory .entry)) place offset (length (now (buffer .entry)))) .number)
         × (now (buffer .exit) ≡ bufferAfter (writtenAt (now (memory .entry)) place offset (length (now (buffer .entry)))) (now (buffer .entry)) offset)
-        × (now (a .exit) ≡ ofWritten (lengthOf (writtenAt (now (memory .entry)) place offset (length (now (buffer .entry))))) .first)
-        × (now (b .exit) ≡ ofWritten (lengthOf (writtenAt (now (memory .entry)) place offset (length (now (buffer .entry))))) .second) ⌝ }
+        × (now (a .exit) ≡ lengthOf (writtenAt (now (memory .entry)) place offset (length (now (buffer .entry)))) .first)
+        × (now (b .exit) ≡ lengthOf (writtenAt (now (memory .entry)) place offset (length (now (buffer .entry)))) .second) ⌝ }
 {
     let n = numbers::of_written(canonical::canonical(memory, place, buffer, offset));
     *a = n.first;
@@ -152,9 +152,9 @@ pub extern "C" fn dhokyurai_canonical_length(
     a: &mut usize,
     b: &mut usize,
 ) -> u8
-    ensures { λ r. ⌜ (r ≡ ofWritten (lengthOf (textAt (now (memory .entry)) place)) .number)
-        × (now (a .exit) ≡ ofWritten (lengthOf (textAt (now (memory .entry)) place)) .first)
-        × (now (b .exit) ≡ ofWritten (lengthOf (textAt (now (memory .entry)) place)) .second) ⌝ }
+    ensures { λ r. ⌜ (r ≡ lengthOf (textAt (now (memory .entry)) place) .number)
+        × (now (a .exit) ≡ lengthOf (textAt (now (memory .entry)) place) .first)
+        × (now (b .exit) ≡ lengthOf (textAt (now (memory .entry)) place) .second) ⌝ }
 {
     let n = numbers::of_written(canonical::canonical_length(memory, place));
     *a = n.first;
@@ -171,10 +171,10 @@ pub extern "C" fn dhokyurai_fingerprint(
     a: &mut usize,
     b: &mut usize,
 ) -> u8
-    ensures { λ r. ⌜ (r ≡ ofPrint (printOf (textAt (now (memory .entry)) place)) .number)
-        × (now (fingerprint .exit) ≡ printed (printOf (textAt (now (memory .entry)) place)))
-        × (now (a .exit) ≡ ofPrint (printOf (textAt (now (memory .entry)) place)) .first)
-        × (now (b .exit) ≡ ofPrint (printOf (textAt (now (memory .entry)) place)) .second) ⌝ }
+    ensures { λ r. ⌜ (r ≡ printOf (textAt (now (memory .entry)) place) .0 .number)
+        × (now (fingerprint .exit) ≡ signed (printOf (textAt (now (memory .entry)) place) .1))
+        × (now (a .exit) ≡ printOf (textAt (now (memory .entry)) place) .0 .first)
+        × (now (b .exit) ≡ printOf (textAt (now (memory .entry)) place) .0 .second) ⌝ }
 {
     let p = canonical::fingerprint(memory, place);
     *fingerprint = numbers::value(p);

@@ -1,8 +1,7 @@
 -- `dhokyurai::dhokyurai_canonical` meets its contract.
 -- Assumes nothing.
-use mathlib.Core.Path.{ap, _∙_}
-use Rattle.dhokyurai.specs.Numbers.{ofWritten}
-use Rattle.dhokyurai.proofs.Laws.{number, first, second}
+use mathlib.Core.Path.{_∙_}
+use Rattle.answer.proofs.Laws.{number, first, second}
 use borrow.Author.Needs.{needs}
 use Rattle.dhokyurai.proofs.dhokyurai_canonical.Statement.{statement}
 use Rattle.dhokyurai.proofs.dhokyurai_canonical.Tie as tie
@@ -17,7 +16,7 @@ same-length : tie.Need-same-length
 same-length c = search needs
 
 returns : tie.Need-returns
-returns c = let e = c .of-written .ensures ∙ ap ofWritten (c .before .before .before .canonical .ensures .0) in (number e, c .before .before .before .canonical .ensures .1, first e, second e)
+returns c = let e = c .of-written .ensures ∙ c .before .before .before .canonical .ensures .0 in (number e, c .before .before .before .canonical .ensures .1, first e, second e)
 
 pub dhokyurai-canonical-spec : {M : Type 1} → statement M
 dhokyurai-canonical-spec =

@@ -1,6 +1,7 @@
 -- `dhokyurai::dhokyurai_full_name` meets its contract.
 -- Assumes nothing.
-use Rattle.dhokyurai.proofs.Laws.{number, first, second, stored}
+use Rattle.answer.proofs.Laws.{number, first, second}
+use Rattle.dhokyurai.proofs.Laws.{stored}
 use borrow.Author.Needs.{needs}
 use Rattle.dhokyurai.proofs.dhokyurai_full_name.Statement.{statement}
 use Rattle.dhokyurai.proofs.dhokyurai_full_name.Tie as tie
@@ -18,7 +19,7 @@ same-length : tie.Need-same-length
 same-length c = search needs
 
 returns : tie.Need-returns
-returns c = let e = c .named .ensures in (number e, stored _ (c .before .before .before .copy .ensures) (c .before .before .before .before .before .full-name .ensures), first e, second e)
+returns c = let e = c .named .ensures in (number e, stored _ (c .before .before .before .copy .ensures) (c .before .before .before .before .before .full-name .ensures .0), first e, second e)
 
 pub dhokyurai-full-name-spec : {M : Type 1} → statement M
 dhokyurai-full-name-spec =

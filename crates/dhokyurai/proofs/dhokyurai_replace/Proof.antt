@@ -1,8 +1,7 @@
 -- `dhokyurai::dhokyurai_replace` meets its contract.
 -- Assumes nothing.
-use mathlib.Core.Path.{ap, _∙_}
-use Rattle.dhokyurai.specs.Numbers.{ofAnswer}
-use Rattle.dhokyurai.proofs.Laws.{number, first, second, third}
+use mathlib.Core.Path.{_∙_}
+use Rattle.answer.proofs.Laws.{number, first, second, third}
 use borrow.Author.Needs.{needs}
 use Rattle.dhokyurai.proofs.dhokyurai_replace.Statement.{statement}
 use Rattle.dhokyurai.proofs.dhokyurai_replace.Tie as tie
@@ -10,15 +9,15 @@ use Rattle.dhokyurai.proofs.dhokyurai_replace.Tie as tie
 replace-requires : tie.Need-replace-requires
 replace-requires c κs = search needs
 
-of-answer-requires : tie.Need-of-answer-requires
-of-answer-requires c κs = search needs
+of-requires : tie.Need-of-requires
+of-requires c κs = search needs
 
 same-length : tie.Need-same-length
 same-length c = search needs
 
 returns : tie.Need-returns
-returns c = let e = c .of-answer .ensures ∙ ap ofAnswer (c .before .before .before .replace .ensures .0) in (number e, c .before .before .before .replace .ensures .1, first e, second e, third e)
+returns c = let e = c .of .ensures ∙ c .before .before .before .replace .ensures .0 in (number e, c .before .before .before .replace .ensures .1, first e, second e, third e)
 
 pub dhokyurai-replace-spec : {M : Type 1} → statement M
 dhokyurai-replace-spec =
-    tie.close (tie.spec replace-requires of-answer-requires same-length returns)
+    tie.close (tie.spec replace-requires of-requires same-length returns)
