@@ -6,7 +6,7 @@ use mathlib.Core.List.{List, [], _∷_, _++_, append-assoc, append-nil}
 use Prim.Native.Nat.{ℕ, suc, _+_, _-_, _*_, _<_, _≤_, min}
 use native.Mathlib.Omega.{arith}
 use lib.Dec.{leb, lit≤}
-use lib.ListN.{length, take, drop, getD, length-append}
+use lib.ListN.{length, take, drop, getD, length-append, take-append-drop}
 use lib.Seq.{take-all, getD-at}
 use borrow.Author.Tests.{lt-ltb, le-leb, leb-true}
 use Rattle.answer.specs.declared.counts.Counts.{Counts}
@@ -14,11 +14,11 @@ use Rattle.answer.specs.Limits.{countsOf, noCounts}
 use Rattle.ground.specs.Bytes.{part, same}
 use Rattle.ground.proofs.Laws.{and-true, same-true, same-refl}
 use Rattle.row.specs.Layout.{declarationLimit, rowLimit, stringLimit, headerSize, rowSize, rowsStart, rowsSize, stringsStart, layoutLength}
-use Rattle.row.specs.Rows.{Row, allFit, texts}
+use Rattle.row.specs.Rows.{Row, allFit, texts, textStart}
 use Rattle.row.specs.Sets.{isWithin, isEncoding, flat, sizes, zeros, pack, encode, countIn, sizesIn, rowsFrom, decode, Within}
-use Rattle.row.specs.Memory.{rowAt, sizeAt, rowsBefore, stringsBefore, countsIn, setCounts, most, counted, hasRoom, written, pushed, countedAll, pushedAll, declared}
+use Rattle.row.specs.Memory.{fromRow, rowAt, textPlace, sizeAt, rowsBefore, stringsBefore, countsIn, setCounts, most, counted, hasRoom, written, pushed, countedAll, pushedAll, declared}
 use Rattle.row.proofs.RowLaws.{texts-append}
-use Rattle.row.proofs.SetLaws.{length-sizes, sum-sizes, split-flat, flat-append, sizes-append, sizes-take, count-pack, sizes-pack, size-of, rows-of, row-of, strings-of, rows-between, length-pack, write-row, write-header, pack-none, part-sizes, part-rows, part-texts, spare-sizes, spare-rows, spare-texts}
+use Rattle.row.proofs.SetLaws.{length-sizes, sum-sizes, split-flat, flat-append, sizes-append, sizes-take, count-pack, sizes-pack, size-of, rows-of, row-of, start-of, strings-of, rows-between, length-pack, write-row, write-header, pack-none, part-sizes, part-rows, part-texts, spare-sizes, spare-rows, spare-texts}
 
 -- ---- what memory can hold
 
@@ -67,6 +67,14 @@ module _ (ds : List (List Row)) (w : Within ds) where
   pub row-encode : (i : ℕ) (d : Row) → i < length (flat ds) → rowAt (encode ds) i ≡ getD (flat ds) i d
   unfolding encode
   row-encode i d h = row-of (sizes ds) (flat ds) i d few (w .rows) (w .strings) (w .numbers) h
+
+  pub place-encode : (i : ℕ) → i < length (flat ds) → textPlace (encode ds) i ≡ stringsStart + length (texts (take i (flat ds)))
+  unfolding encode textPlace
+  place-encode i h =
+      let e : textStart (fromRow (pack (sizes ds) (flat ds)) i) ≡ length (texts (take i (flat ds))) = start-of (sizes ds) (flat ds) i few (w .rows) (w .strings) h in
+      let n : length (texts (flat ds)) ≡ length (texts (take i (flat ds))) + length (texts (drop i (flat ds)))
+      = ap (λ (x : List Row). length (texts x)) (sym (take-append-drop i (flat ds))) ∙ ap length (texts-append (take i (flat ds)) (drop i (flat ds))) ∙ length-append (texts (take i (flat ds))) (texts (drop i (flat ds))) in
+      rw e (omega (arith, n, w .strings))
 
   pub strings-encode : (n : ℕ) → n ≤ length (flat ds) → stringsBefore (encode ds) n ≡ length (texts (take n (flat ds)))
   unfolding encode

@@ -2,10 +2,10 @@
 -- Assumes nothing.
 use mathlib.Core.Path.{_≡_, refl, sym, ap, _∙_}
 use mathlib.Core.List.{List, []}
-use Prim.Native.Nat.{ℕ, suc, _+_, _-_, _*_, _<_, _≤_}
+use Prim.Native.Nat.{ℕ, suc, _+_, _-_, _*_, _<_, _≤_, min}
 use native.Mathlib.Nat.{add-zero, sub-zero}
 use native.Mathlib.Omega.{arith}
-use lib.ListN.{length, take, drop, getD, length-drop, drop-of-length-le}
+use lib.ListN.{length, take, drop, getD, length-take, length-drop, drop-of-length-le}
 use lib.Seq.{drop-drop, take-nil, take-all}
 use borrow.Author.Tests.{eq-eqb, ne-eqb}
 use Rattle.answer.specs.declared.counts.Counts.{Counts}
@@ -13,10 +13,10 @@ use Rattle.answer.specs.Limits.{countsOf}
 use Rattle.ground.specs.Bytes.{part}
 use Rattle.row.specs.Kinds.{kindNumber, kindOf}
 use Rattle.row.specs.Numbers.{le, number}
-use Rattle.row.specs.Layout.{rowSize, rowsStart, stringsStart}
+use Rattle.row.specs.Layout.{rowSize, rowsStart, stringLimit, stringsStart, layoutLength}
 use Rattle.row.specs.Rows.{entryOf, textOf, textStart, textLength}
 use Rattle.row.specs.Sets.{sum, wordsOf, countIn, sizesIn}
-use Rattle.row.specs.Memory.{fromRow, entryAt, textAt, sizeAt, rowsBefore, textEnd, stringsBefore, countsIn}
+use Rattle.row.specs.Memory.{fromRow, entryAt, textAt, textPlace, behind, sizeAt, rowsBefore, textEnd, stringsBefore, countsIn}
 use Rattle.row.specs.declared.kind.Kind.{Kind}
 use Rattle.row.specs.declared.Entry.{Entry}
 use Rattle.row.proofs.NumberLaws.{number-one}
@@ -81,9 +81,9 @@ module _ (m : List ℕ) (i : ℕ) where
 
 -- ---- a row's string
 
-pub cut-none : (s : List ℕ) (at n : ℕ) → length s ≤ at → [] ≡ part s at n
+pub cut-none : (s : List ℕ) (at n : ℕ) → length s ≤ at → take (length s - length s) (drop (length s) s) ≡ part s at n
 unfolding part
-cut-none s at n h = sym (ap (take n) (drop-of-length-le s h) ∙ take-nil n)
+cut-none s at n h = ap (take (length s - length s)) (drop-of-length-le s {i = length s} (omega arith)) ∙ take-nil (length s - length s) ∙ sym (ap (take n) (drop-of-length-le s h) ∙ take-nil n)
 
 pub cut-rest : (s : List ℕ) (at n : ℕ) → length s - at ≤ n → take (length s - at) (drop at s) ≡ part s at n
 unfolding part
@@ -100,6 +100,18 @@ unfolding textAt textOf
 read-text m x i b n p q e =
     let l = length-drop stringsStart m in
     e ∙ rw (take-all (length m - stringsStart) (drop stringsStart m) (omega arith), p, q)
+
+-- and where it lies: a part of a part is a part
+pub lies : (p : ℕ × ℕ) {a b : ℕ} → a ≡ b → behind p a ≡ behind p b
+lies p e = ap (behind p) e
+
+pub text-lies : (m : List ℕ) (i b : ℕ) (p q : ℕ × ℕ) → length m ≡ layoutLength → b ≡ textStart (fromRow m i)
+    → q ≡ behind (behind p stringsStart) (min b (length (take (length m - stringsStart) (drop stringsStart m)))) → q ≡ behind p (textPlace m i)
+unfolding textPlace
+text-lies m i b p q l e h =
+    let n : length (take (length m - stringsStart) (drop stringsStart m)) ≡ stringLimit = length-take (length m - stringsStart) (drop stringsStart m) ∙ omega (arith, length-drop stringsStart m) in
+    let k : min b (length (take (length m - stringsStart) (drop stringsStart m))) + (stringsStart + p .1) ≡ stringsStart + min (textStart (fromRow m i)) stringLimit + p .1 = rw (n, e) (omega arith) in
+    h ∙ ap (λ (x : ℕ). (p .0, x)) k
 
 pub no-rows : (m : List ℕ) (n : ℕ) → n ≡ 0 → 0 ≡ stringsBefore m n
 unfolding stringsBefore

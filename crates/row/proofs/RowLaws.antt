@@ -137,6 +137,11 @@ row-back o r x p y e h k f =
       scale = le-bytes 8 (r .scale) (g .scale) i;
     }
 
+-- where its string begins
+pub start-back : (o : ℕ) (r : Row) (x : List ℕ) → o < 2 ^ 16 → textStart (encodeRow o r ++ x) ≡ o
+unfolding encodeRow encodeFront lowFirst part
+start-back o r x h = le-bytes 2 o h
+
 -- where its string ends
 pub end-back : (o : ℕ) (r : Row) (x : List ℕ) → o < 2 ^ 16 → length (r .text) < 2 ^ 16 → textStart (encodeRow o r ++ x) + textLength (encodeRow o r ++ x) ≡ o + length (r .text)
 unfolding encodeRow encodeFront lowFirst part

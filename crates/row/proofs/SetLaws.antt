@@ -14,11 +14,11 @@ use Rattle.ground.proofs.Laws.{part-front, part-mid, store-seam}
 use Rattle.ground.specs.Numbers.{lowFirst}
 use Rattle.row.specs.Numbers.{le, number}
 use Rattle.row.specs.Layout.{declarationLimit, rowLimit, stringLimit, headerSize, rowSize, rowsStart, rowsSize, stringsStart, layoutLength}
-use Rattle.row.specs.Rows.{Row, allFit, encodeRow, encodeRows, texts, rowsOf}
+use Rattle.row.specs.Rows.{Row, allFit, encodeRow, encodeRows, texts, textStart, rowsOf}
 use Rattle.row.specs.Sets.{flat, sizes, sum, words, zeros, filled, pack, wordsOf, countIn, sizesIn, rowsFrom, split}
 use Rattle.row.proofs.NumberLaws.{length-bytes, le-bytes}
-use Rattle.row.specs.Memory.{entryAt, textAt, rowAt, sizeAt, stringsBefore, textEnd}
-use Rattle.row.proofs.RowLaws.{end-back, length-row, length-rows, rows-append, texts-append, rows-back, fit-append}
+use Rattle.row.specs.Memory.{fromRow, entryAt, textAt, rowAt, sizeAt, stringsBefore, textEnd}
+use Rattle.row.proofs.RowLaws.{start-back, end-back, length-row, length-rows, rows-append, texts-append, rows-back, fit-append}
 
 -- ---- declarations and their rows
 
@@ -232,6 +232,22 @@ unfolding rowsFrom rowsOf entryAt textAt
 row-of cs rs i d few fit room ok l =
     ap (λ (x : List Row). getD x 0 d) (rows-of cs rs 1 i few fit room ok (omega arith))
     ∙ rw (drop-cons rs i d l)
+
+-- where the string of row i begins
+pub start-of : (cs : List ℕ) (rs : List Row) (i : ℕ) → length cs ≤ declarationLimit → length rs ≤ rowLimit → length (texts rs) ≤ stringLimit → i < length rs
+    → textStart (fromRow (pack cs rs) i) ≡ length (texts (take i rs))
+unfolding texts encodeRows
+start-of cs rs i few fit room l =
+    let d : Row = rowAt [] 0 in
+    let a : List Row = take i rs in
+    let r : Row = getD rs i d in
+    let z : List Row = drop (suc i) rs in
+    let e : a ++ ((r ∷ []) ++ z) ≡ rs = sym (split-at rs i d l) in
+    let p : length a ≡ i = length-take-le i rs (omega arith) in
+    let u : length (texts rs) ≡ length (texts a) + (length (r .text) + length (texts z)) = ap (λ (x : List Row). length (texts x)) (sym e) ∙ ap length (texts-append a (r ∷ z)) ∙ simp length-append in
+    let f : drop (rowsStart + rowSize * i) (pack cs rs) ≡ encodeRow (length (texts a)) r ++ behind cs a (r ∷ []) z few (rw e fit) (rw e room)
+    = (rw (e, p, append-nil (encodeRow (length (texts a)) r)) at (from-row cs a (r ∷ []) z few (rw e fit) (rw e room))) in
+    rw f (start-back (length (texts a)) r _ (omega arith))
 
 -- where the strings of the first n rows end
 pub strings-of : (cs : List ℕ) (rs : List Row) (n : ℕ) → length cs ≤ declarationLimit → length rs ≤ rowLimit → length (texts rs) ≤ stringLimit → n ≤ length rs

@@ -27,6 +27,14 @@ entryAt m i = entryOf (fromRow m i)
 unfoldable pub textAt : List ℕ → ℕ → List ℕ
 textAt m i = textOf (drop stringsStart m) (fromRow m i)
 
+-- where in memory it begins
+unfoldable pub textPlace : List ℕ → ℕ → ℕ
+textPlace m i = stringsStart + min (textStart (fromRow m i)) stringLimit
+
+-- a slice's pointer is a block of memory and a place in it: this is the pointer so many bytes behind a slice's first
+abbrev pub behind : ℕ × ℕ → ℕ → ℕ × ℕ
+behind first at = (first .0, at + first .1)
+
 abbrev pub rowAt : List ℕ → ℕ → Row
 rowAt m i = rowOf (entryAt m i) (textAt m i)
 

@@ -6,14 +6,14 @@ use crate::number::u16_at;
 use crate::number::u64_at;
 use answer::Counts;
 ghost use mathlib.Core.Path.{_≡_};
-ghost use Prim.Native.Nat.{_≤_, _<_};
+ghost use Prim.Native.Nat.{_≤_, _<_, min};
 ghost use lib.ListN.{length};
 ghost use Rattle.ground.specs.Bytes.{part};
 ghost use Rattle.row.specs.Kinds.{kindNumber};
 ghost use Rattle.row.specs.Layout.{declarationLimit, rowLimit, layoutLength};
 ghost use Rattle.row.specs.Rows.{textStart, textLength};
 ghost use Rattle.row.specs.Sets.{countIn};
-ghost use Rattle.row.specs.Memory.{fromRow, entryAt, textAt, sizeAt, rowsBefore, stringsBefore, countsIn};
+ghost use Rattle.row.specs.Memory.{fromRow, entryAt, textAt, textPlace, behind, sizeAt, rowsBefore, stringsBefore, countsIn};
 
 // The kind of row i.
 pub fn kind_at(mem: &[u8], i: usize) -> Kind
@@ -117,12 +117,12 @@ pub(crate) fn text_start(mem: &[u8], i: usize) -> usize
     u16_at(mem, at + 8) as usize
 }
 
-// The n bytes of s from a place on, or as many of them as there are.
+// The n bytes of s from a place on, or as many of them as there are: a part of s, not only equal bytes.
 fn cut(s: &[u8], at: usize, n: usize) -> &[u8]
-    ensures { λ r. ⌜ now r ≡ part (now (s .entry)) at n ⌝ }
+    ensures { λ r. ⌜ (now r ≡ part (now (s .entry)) at n) × (r .ptr ≡ behind (s .entry .ptr) (min at (length (now (s .entry))))) ⌝ }
 {
     if s.len() <= at {
-        return &s[0..0];
+        return &s[s.len()..];
     }
     if s.len() - at <= n {
         return &s[at..];
@@ -133,7 +133,7 @@ fn cut(s: &[u8], at: usize, n: usize) -> &[u8]
 // The string of row i, a part of the memory; of one that does not lie in the string area, the part that does.
 pub fn string_of(mem: &[u8], i: usize) -> &[u8]
     requires { ⌜ (length (now mem) ≡ layoutLength) × (i < rowLimit) ⌝ }
-    ensures { λ r. ⌜ now r ≡ textAt (now (mem .entry)) i ⌝ }
+    ensures { λ r. ⌜ (now r ≡ textAt (now (mem .entry)) i) × (r .ptr ≡ behind (mem .entry .ptr) (textPlace (now (mem .entry)) i)) ⌝ }
 {
     let start = text_start(mem, i);
     let n = text_length(mem, i);

@@ -23,7 +23,7 @@ mark-requires c κs = search needs
 returns : tie.Need-returns
 unfolding keyOf
 returns c =
-    λ k e. rw (sym (c .before .before .before .told-by-name .ensures k (entryAt (c .before .before .before .before .before .before .args .mem .now) (c .before .before .before .before .before .before .args .i) .kind) e (c .before .before .before .before .kind-number .ensures)) ∙ c .before .before .if1 .taken) (c .mark .ensures ∙ ap markOf (c .before .string-of .ensures))
+    λ k e. rw (sym (c .before .before .before .told-by-name .ensures k (entryAt (c .before .before .before .before .before .before .args .mem .now) (c .before .before .before .before .before .before .args .i) .kind) e (c .before .before .before .before .kind-number .ensures)) ∙ c .before .before .if1 .taken) (c .mark .ensures ∙ ap markOf (c .before .string-of .ensures .0))
 
 cast-result : tie.Need-cast-result
 cast-result c = search needs

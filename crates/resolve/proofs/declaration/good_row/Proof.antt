@@ -19,21 +19,21 @@ good-text-requires c κs = search needs
 
 returns : tie.Need-returns
 returns c =
-    (row-text _ _ _ (ap (goodText _) (sym (c .before .before .string-of .ensures)) ∙ sym (c .before .good-text .ensures _ (c .before .before .before .kind-number .ensures)) ∙ not-true _ (c .if1 .taken)), c .before .before .before .before .before .before .before .pre .3)
+    (row-text _ _ _ (ap (goodText _) (sym (c .before .before .string-of .ensures .0)) ∙ sym (c .before .good-text .ensures _ (c .before .before .before .kind-number .ensures)) ∙ not-true _ (c .if1 .taken)), c .before .before .before .before .before .before .before .pre .3)
 
 good-numbers-requires : tie.Need-good-numbers-requires
 good-numbers-requires c κs = (search needs, search needs, c .before .before .before .kind-number .ensures)
 
 returns-2 : tie.Need-returns-2
 returns-2 c =
-    (row-numbers _ _ _ (ap (goodText _) (sym (c .before .before .before .before .string-of .ensures)) ∙ sym (c .before .before .before .good-text .ensures _ (c .before .before .before .before .before .kind-number .ensures)) ∙ not-false _ (c .before .before .if1 .left)) (sym (c .before .good-numbers .ensures) ∙ not-true _ (c .if2 .taken)), c .before .before .before .before .before .before .before .before .before .pre .3)
+    (row-numbers _ _ _ (ap (goodText _) (sym (c .before .before .before .before .string-of .ensures .0)) ∙ sym (c .before .before .before .good-text .ensures _ (c .before .before .before .before .before .kind-number .ensures)) ∙ not-false _ (c .before .before .if1 .left)) (sym (c .before .good-numbers .ensures) ∙ not-true _ (c .if2 .taken)), c .before .before .before .before .before .before .before .before .before .pre .3)
 
 good-parts-requires : tie.Need-good-parts-requires
 good-parts-requires c κs = search needs
 
 returns-3 : tie.Need-returns-3
 returns-3 c =
-    (row-parts _ _ _ (ap (goodText _) (sym (c .before .before .before .before .before .before .string-of .ensures)) ∙ sym (c .before .before .before .before .before .good-text .ensures _ (c .before .before .before .before .before .before .before .kind-number .ensures)) ∙ not-false _ (c .before .before .before .before .if1 .left)) (sym (c .before .before .before .good-numbers .ensures) ∙ not-false _ (c .before .before .if2 .left)) (sym (c .before .good-parts .ensures) ∙ not-true _ (c .if3 .taken)), c .before .before .before .before .before .before .before .before .before .before .before .pre .3)
+    (row-parts _ _ _ (ap (goodText _) (sym (c .before .before .before .before .before .before .string-of .ensures .0)) ∙ sym (c .before .before .before .before .before .good-text .ensures _ (c .before .before .before .before .before .before .before .kind-number .ensures)) ∙ not-false _ (c .before .before .before .before .if1 .left)) (sym (c .before .before .before .good-numbers .ensures) ∙ not-false _ (c .before .before .if2 .left)) (sym (c .before .good-parts .ensures) ∙ not-true _ (c .if3 .taken)), c .before .before .before .before .before .before .before .before .before .before .before .pre .3)
 
 no-clash-requires : tie.Need-no-clash-requires
 no-clash-requires c κs = search needs
@@ -48,7 +48,7 @@ same-length-2 c =
 
 returns-4 : tie.Need-returns-4
 returns-4 c =
-    (c .before .before .before .before .no-clash .ensures .0 ∙ row-last _ _ _ (ap (goodText _) (sym (c .before .before .before .before .before .before .before .before .before .before .before .before .before .string-of .ensures)) ∙ sym (c .before .before .before .before .before .before .before .before .before .before .before .before .good-text .ensures _ (c .before .before .before .before .before .before .before .before .before .before .before .before .before .before .kind-number .ensures)) ∙ not-false _ (c .before .before .before .before .before .before .before .before .before .before .before .if1 .left)) (sym (c .before .before .before .before .before .before .before .before .before .before .good-numbers .ensures) ∙ not-false _ (c .before .before .before .before .before .before .before .before .before .if2 .left)) (sym (c .before .before .before .before .before .before .before .before .good-parts .ensures) ∙ not-false _ (c .before .before .before .before .before .before .before .if3 .left)), c .before .before .before .before .no-clash .ensures .1)
+    (c .before .before .before .before .no-clash .ensures .0 ∙ row-last _ _ _ (ap (goodText _) (sym (c .before .before .before .before .before .before .before .before .before .before .before .before .before .string-of .ensures .0)) ∙ sym (c .before .before .before .before .before .before .before .before .before .before .before .before .good-text .ensures _ (c .before .before .before .before .before .before .before .before .before .before .before .before .before .before .kind-number .ensures)) ∙ not-false _ (c .before .before .before .before .before .before .before .before .before .before .before .if1 .left)) (sym (c .before .before .before .before .before .before .before .before .before .before .good-numbers .ensures) ∙ not-false _ (c .before .before .before .before .before .before .before .before .before .if2 .left)) (sym (c .before .before .before .before .before .before .before .before .good-parts .ensures) ∙ not-false _ (c .before .before .before .before .before .before .before .if3 .left)), c .before .before .before .before .no-clash .ensures .1)
 
 pub good-row-spec : {M : Type 1} → statement M
 good-row-spec =

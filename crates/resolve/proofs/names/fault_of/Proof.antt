@@ -34,11 +34,11 @@ position-at-requires c κs = search needs
 
 returns : tie.Need-returns
 returns c =
-    fault-twice _ _ _ (sym (c .before .before .before .before .before .is-definition .ensures _ (c .before .before .before .before .before .before .kind-number .ensures)) ∙ c .before .before .before .before .if1 .taken) (ap (isDefined _) (sym (c .before .before .before .string-of .ensures)) ∙ sym (chain-defined _ _ _ _ _ _ (c .before .before .before .before .before .before .before .before .before .before .before .pre .5) (c .before .before .is-known .ensures)) ∙ c .before .if2 .taken) (c .position-at .ensures)
+    fault-twice _ _ _ (sym (c .before .before .before .before .before .is-definition .ensures _ (c .before .before .before .before .before .before .kind-number .ensures)) ∙ c .before .before .before .before .if1 .taken) (ap (isDefined _) (sym (c .before .before .before .string-of .ensures .0)) ∙ sym (chain-defined _ _ _ _ _ _ (c .before .before .before .before .before .before .before .before .before .before .before .pre .5) (c .before .before .is-known .ensures)) ∙ c .before .if2 .taken) (c .position-at .ensures)
 
 returns-2 : tie.Need-returns-2
 returns-2 c =
-    fault-new _ _ _ (sym (c .before .before .before .before .is-definition .ensures _ (c .before .before .before .before .before .kind-number .ensures)) ∙ c .before .before .before .if1 .taken) (ap (isDefined _) (sym (c .before .before .string-of .ensures)) ∙ sym (chain-defined _ _ _ _ _ _ (c .before .before .before .before .before .before .before .before .before .before .pre .5) (c .before .is-known .ensures)) ∙ c .if2 .left)
+    fault-new _ _ _ (sym (c .before .before .before .before .is-definition .ensures _ (c .before .before .before .before .before .kind-number .ensures)) ∙ c .before .before .before .if1 .taken) (ap (isDefined _) (sym (c .before .before .string-of .ensures .0)) ∙ sym (chain-defined _ _ _ _ _ _ (c .before .before .before .before .before .before .before .before .before .before .pre .5) (c .before .is-known .ensures)) ∙ c .if2 .left)
 
 is-kind-requires : tie.Need-is-kind-requires
 is-kind-requires c κs = search needs
@@ -54,7 +54,7 @@ is-known-requires-2 c κs = search needs
 
 returns-3 : tie.Need-returns-3
 returns-3 c =
-    fault-known _ _ _ (sym (c .before .before .before .before .before .before .is-definition .ensures _ (c .before .before .before .before .before .before .before .kind-number .ensures)) ∙ c .before .before .before .before .before .if1 .left) (sym (c .before .before .before .before .is-kind .ensures _ (c .before .before .before .before .before .before .before .kind-number .ensures)) ∙ c .before .before .before .if3 .taken) (ap (isDefined _) (sym (c .before .before .string-of2 .ensures)) ∙ sym (chain-defined _ _ _ _ _ _ (c .before .before .before .before .before .before .before .before .before .before .before .before .pre .5) (c .before .is-known2 .ensures)) ∙ c .if4 .taken)
+    fault-known _ _ _ (sym (c .before .before .before .before .before .before .is-definition .ensures _ (c .before .before .before .before .before .before .before .kind-number .ensures)) ∙ c .before .before .before .before .before .if1 .left) (sym (c .before .before .before .before .is-kind .ensures _ (c .before .before .before .before .before .before .before .kind-number .ensures)) ∙ c .before .before .before .if3 .taken) (ap (isDefined _) (sym (c .before .before .string-of2 .ensures .0)) ∙ sym (chain-defined _ _ _ _ _ _ (c .before .before .before .before .before .before .before .before .before .before .before .before .pre .5) (c .before .is-known2 .ensures)) ∙ c .if4 .taken)
 
 add-position-at-2 : tie.Need-add-position-at-2
 add-position-at-2 c = search needs
@@ -64,7 +64,7 @@ position-at-requires-2 c κs = search needs
 
 returns-4 : tie.Need-returns-4
 returns-4 c =
-    fault-unknown _ _ _ (sym (c .before .before .before .before .before .before .before .is-definition .ensures _ (c .before .before .before .before .before .before .before .before .kind-number .ensures)) ∙ c .before .before .before .before .before .before .if1 .left) (sym (c .before .before .before .before .before .is-kind .ensures _ (c .before .before .before .before .before .before .before .before .kind-number .ensures)) ∙ c .before .before .before .before .if3 .taken) (ap (isDefined _) (sym (c .before .before .before .string-of2 .ensures)) ∙ sym (chain-defined _ _ _ _ _ _ (c .before .before .before .before .before .before .before .before .before .before .before .before .before .pre .5) (c .before .before .is-known2 .ensures)) ∙ c .before .if4 .left) (c .position-at2 .ensures)
+    fault-unknown _ _ _ (sym (c .before .before .before .before .before .before .before .is-definition .ensures _ (c .before .before .before .before .before .before .before .before .kind-number .ensures)) ∙ c .before .before .before .before .before .before .if1 .left) (sym (c .before .before .before .before .before .is-kind .ensures _ (c .before .before .before .before .before .before .before .before .kind-number .ensures)) ∙ c .before .before .before .before .if3 .taken) (ap (isDefined _) (sym (c .before .before .before .string-of2 .ensures .0)) ∙ sym (chain-defined _ _ _ _ _ _ (c .before .before .before .before .before .before .before .before .before .before .before .before .before .pre .5) (c .before .before .is-known2 .ensures)) ∙ c .before .if4 .left) (c .position-at2 .ensures)
 
 returns-5 : tie.Need-returns-5
 returns-5 c =

@@ -1,7 +1,8 @@
 -- `row::read::cut` meets its contract: nothing, all that is left, or n bytes.
 -- Assumes nothing.
-use Rattle.row.proofs.ReadLaws.{cut-none, cut-rest, cut-part}
+use Rattle.row.proofs.ReadLaws.{cut-none, cut-rest, cut-part, lies}
 use borrow.Author.Needs.{needs}
+use native.Mathlib.Omega.{arith}
 use Rattle.row.proofs.read.cut.Statement.{statement}
 use Rattle.row.proofs.read.cut.Tie as tie
 
@@ -15,7 +16,7 @@ part-result-end : tie.Need-part-result-end
 part-result-end c = search needs
 
 returns : tie.Need-returns
-returns c = cut-none _ _ _ (search needs)
+returns c = (cut-none _ _ _ (search needs), lies _ (omega arith))
 
 sub-if2 : tie.Need-sub-if2
 sub-if2 c = search needs
@@ -30,7 +31,7 @@ part-result-end-2 : tie.Need-part-result-end-2
 part-result-end-2 c = search needs
 
 returns-2 : tie.Need-returns-2
-returns-2 c = cut-rest _ _ _ (search needs)
+returns-2 c = (cut-rest _ _ _ (search needs), lies _ (omega arith))
 
 add-result : tie.Need-add-result
 add-result c = search needs
@@ -45,7 +46,7 @@ part-result-end-3 : tie.Need-part-result-end-3
 part-result-end-3 c = search needs
 
 returns-3 : tie.Need-returns-3
-returns-3 c = cut-part _ _ _
+returns-3 c = (cut-part _ _ _, lies _ (omega arith))
 
 pub cut-spec : {M : Type 1} → statement M
 cut-spec =

@@ -45,7 +45,7 @@ loop-less c = omega arith
 loop-again : tie.Need-loop-again Inv-loop μ-loop
 loop-again c =
     let l = c .before .before .before .before .before .before .before in
-    let t = push-turn _ _ _ (c .before .before .before .before .before .before .before .before .before .before .args .start) (c .before .before .before .before .before .before .before .before .before .before .args .n) (l .loop .i) _ _ (l .loop .inv .2) (l .loop .inv .3) (c .before .before .before .before .before .before .loop-test .taken) _ _ (c .before .before .before .before .before .read-row .ensures) (c .before .before .before .before .string-of .ensures) _ _ (c .before .before .push .ensures .0) (c .before .before .push .ensures .1) in
+    let t = push-turn _ _ _ (c .before .before .before .before .before .before .before .before .before .before .args .start) (c .before .before .before .before .before .before .before .before .before .before .args .n) (l .loop .i) _ _ (l .loop .inv .2) (l .loop .inv .3) (c .before .before .before .before .before .before .loop-test .taken) _ _ (c .before .before .before .before .before .read-row .ensures) (c .before .before .before .before .string-of .ensures .0) _ _ (c .before .before .push .ensures .0) (c .before .before .push .ensures .1) in
     (omega arith, c .before .before .push .kept .0 ∙ l .loop .inv .1, t .0, t .1)
 
 same-length : tie.Need-same-length Inv-loop μ-loop
