@@ -9,7 +9,17 @@ use Rattle.schema.specs.declared.walked.Walked.{Walked}
 use Rattle.schema.specs.declared.walked.Walked.the-variants.{Read, Bad}
 use Rattle.schema.specs.Out.{Out, refused, read}
 use Rattle.schema.specs.Did.{Did}
-use Rattle.bench_calls.specs.Places.{rowsRead}
+use borrow.Author.Tests.{ne-eqb}
+use Rattle.answer.specs.declared.refusal.Refusal.{Refusal}
+use Rattle.answer.specs.declared.Answer.{Answer}
+use Rattle.answer.specs.declared.Answer.the-variants as answer
+use Rattle.answer.specs.Numbers.{numberOf}
+use Rattle.answer.specs.Answers.{ofRefusal, numbersOf}
+use Rattle.answer.proofs.Laws.{never-zero}
+use Rattle.canonical.specs.Calls.{numbersOfWritten}
+use Rattle.canonical.specs.declared.answers.Written.{Written}
+use Rattle.canonical.specs.declared.answers.Written.the-variants as written
+use Rattle.bench_calls.specs.Places.{rowsRead, rowsIn, lengthIn}
 
 -- the rows of an answer, 0 where it is a refusal
 abbrev rowsOf : Walked → ℕ
@@ -25,3 +35,16 @@ when-read {m} {m′} {r} {o} d e = sym (ap rowsOf e) ∙ rows-read m m′ r o d
 
 pub when-bad : {m m′ : List ℕ} {r : Walked} {o : Out} {f : Fault} → Did m noCounts m′ r o → r ≡ Bad f → 0 ≡ rowsRead o
 when-bad {m} {m′} {r} {o} d e = sym (ap rowsOf e) ∙ rows-read m m′ r o d
+
+-- a refusal has no rows and no length
+no-rows : (r : Refusal) → rowsIn (ofRefusal r) ≡ 0
+no-rows r = rw (ne-eqb (numberOf (r .why)) 0 (never-zero (r .why)))
+
+no-length : (r : Refusal) → lengthIn (ofRefusal r) ≡ 0
+no-length r = rw (ne-eqb (numberOf (r .why)) 0 (never-zero (r .why)))
+
+pub rows-none : {a : Answer} {r : Refusal} → a ≡ answer.Refused r → 0 ≡ rowsIn (numbersOf a)
+rows-none {r = r} e = sym (ap (λ (x : Answer). rowsIn (numbersOf x)) e ∙ no-rows r)
+
+pub length-none : {w : Written} {r : Refusal} → w ≡ written.Refused r → 0 ≡ lengthIn (numbersOfWritten w)
+length-none {r = r} e = sym (ap (λ (x : Written). lengthIn (numbersOfWritten x)) e ∙ no-length r)

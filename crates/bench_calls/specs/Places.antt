@@ -1,12 +1,11 @@
 -- Answers as one number.
 -- Assumes nothing.
 use Prim.Native.Nat.{ℕ}
-use Rattle.answer.specs.declared.Answer.{Answer}
-use Rattle.answer.specs.declared.Answer.the-variants as answer
+use mathlib.Core.Bool.{cond}
+use lib.Dec.{eqb}
+use Rattle.answer.specs.declared.numbers.Numbers.{Numbers}
 use Rattle.answer.specs.Limits.{noCounts}
 use Rattle.row.specs.Memory.{countedAll}
-use Rattle.canonical.specs.declared.answers.Written.{Written}
-use Rattle.canonical.specs.declared.answers.Written.the-variants as written
 use Rattle.schema.specs.Out.{Out, refused, read}
 use Rattle.json.specs.declared.verdict.Scan.{Scan}
 use Rattle.json.specs.declared.verdict.Scan.the-variants.{Whole, Bad}
@@ -22,11 +21,9 @@ rowsRead (refused f) = 0
 rowsRead (read rows) = countedAll noCounts rows .rows
 
 -- a set: how many rows it has, 0 where the call is refused
-abbrev pub rowsIn : Answer → ℕ
-rowsIn (answer.Done c) = c .rows
-rowsIn (answer.Refused r) = 0
+abbrev pub rowsIn : Numbers → ℕ
+rowsIn n = cond (eqb (n .number) 0) (n .second) 0
 
 -- a text: how long it is, 0 where it is refused
-abbrev pub lengthIn : Written → ℕ
-lengthIn (written.Length n) = n
-lengthIn (written.Refused r) = 0
+abbrev pub lengthIn : Numbers → ℕ
+lengthIn n = cond (eqb (n .number) 0) (n .first) 0

@@ -5,8 +5,9 @@ use json::Scan;
 use schema::Walked;
 ghost use mathlib.Core.Path.{_≡_};
 ghost use lib.ListN.{length};
+ghost use Rattle.answer.specs.Answers.{numbersOf};
 ghost use Rattle.bench_calls.specs.Places.{placeOf, rowsRead, rowsIn, lengthIn};
-ghost use Rattle.canonical.specs.Calls.{writtenAt, lengthOf, bufferAfter};
+ghost use Rattle.canonical.specs.Calls.{writtenAt, numbersOfWritten, lengthOf, bufferAfter};
 ghost use Rattle.ground.specs.Bytes.{same};
 ghost use Rattle.json.specs.Json.{scanned};
 ghost use Rattle.rabin.specs.Rabin.{rabinOf};
@@ -58,7 +59,7 @@ pub extern "C" fn bench_well_formed(memory: &[u8]) -> bool
 }
 
 fn rows_in(a: Answer) -> usize
-    ensures { λ r. ⌜ r ≡ rowsIn a ⌝ }
+    ensures { λ r. ⌜ r ≡ rowsIn (numbersOf a) ⌝ }
 {
     match a {
         Answer::Done(c) => c.rows,
@@ -84,7 +85,7 @@ pub extern "C" fn bench_replace(memory: &mut [u8], place: usize, text: &[u8]) ->
 }
 
 fn length_in(w: Written) -> usize
-    ensures { λ r. ⌜ r ≡ lengthIn w ⌝ }
+    ensures { λ r. ⌜ r ≡ lengthIn (numbersOfWritten w) ⌝ }
 {
     match w {
         Written::Length(n) => n,

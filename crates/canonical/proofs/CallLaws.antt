@@ -15,6 +15,8 @@ use borrow.Rule.Slice.PartMut.{midOf, putMid}
 use borrow.Author.Tests.{ltb-true, lt-ltb, le-ltb, le-leb, lt-leb, leb-true}
 use Rattle.answer.specs.declared.refusal.Why.the-variants.{NotWellFormed, NoSuchPlace, NoRoom}
 use Rattle.answer.specs.declared.refusal.Refusal.{Refusal}
+use Rattle.answer.specs.Answers.{accepted, ofRefusal}
+use Rattle.answer.proofs.Laws.{first, refusal-one, never-both}
 use Rattle.ground.proofs.Laws.{never, and-true, store-fits}
 use Rattle.name.specs.Name.{every}
 use Rattle.row.specs.Layout.{declarationLimit, rowLimit, layoutLength}
@@ -28,8 +30,10 @@ use Rattle.resolve.specs.Rules.{isDeclaration}
 use Rattle.resolve.specs.WellFormed.{Good, wellFormed}
 use Rattle.resolve.proofs.Laws.{exact, good-within, every-append}
 use Rattle.canonical.specs.Canonical.{textOf, canonicalOf}
-use Rattle.canonical.specs.Calls.{Found, found, refused, refusal, rowsAt, textAt, writtenAt, lengthOf, bufferAfter, printOf}
+use Rattle.canonical.specs.Calls.{Found, found, refused, refusal, rowsAt, textAt, writtenAt, numbersOfWritten, lengthOf, bufferAfter, numbersOfPrint, printOf}
+use Rattle.canonical.specs.declared.answers.Written.{Written}
 use Rattle.canonical.specs.declared.answers.Written.the-variants.{Length, Refused}
+use Rattle.canonical.specs.declared.answers.Print.{Print}
 use Rattle.canonical.specs.declared.answers.Print.the-variants.{Fingerprint, Refused as NoPrint}
 use Rattle.canonical.specs.Wrote.{Wrote}
 use Rattle.canonical.specs.Walk.{pieceText, textLimit, rowCost}
@@ -151,12 +155,12 @@ abbrev canonicalAt : List ℕ → ℕ → List ℕ
 canonicalAt m place = canonicalOf (rowsAt (decode m) place)
 
 module _ (m : List ℕ) (place : ℕ) where
-  pub length-broken : wellFormed m ≡ false → Refused (refusal NotWellFormed place 0) ≡ lengthOf (textAt m place)
+  pub length-broken : wellFormed m ≡ false → ofRefusal (refusal NotWellFormed place 0) ≡ lengthOf (textAt m place)
   unfolding textAt lengthOf
   length-broken w = rw w
 
   module _ (w : wellFormed m ≡ true) where
-    pub length-absent : (n : ℕ) → n ≡ countIn m → n ≤ place → Refused (refusal NoSuchPlace place 0) ≡ lengthOf (textAt m place)
+    pub length-absent : (n : ℕ) → n ≡ countIn m → n ≤ place → ofRefusal (refusal NoSuchPlace place 0) ≡ lengthOf (textAt m place)
     unfolding textAt lengthOf
     length-absent n e h = let k : length (decode m) ≤ place = omega (arith, formed-count m w) in rw (w, le-ltb place (length (decode m)) k)
 
@@ -167,46 +171,46 @@ module _ (m : List ℕ) (place : ℕ) where
     unfolding textAt
     text-found l = rw (w, lt-ltb place (length (decode m)) l)
 
-    pub length-found : place < length (decode m) → (n : ℕ) → n ≡ 0 + length (canonicalAt m place) → Length n ≡ lengthOf (textAt m place)
+    pub length-found : place < length (decode m) → (n : ℕ) → n ≡ 0 + length (canonicalAt m place) → accepted n 0 0 ≡ lengthOf (textAt m place)
     unfolding lengthOf
-    length-found l n e = rw (text-found l) (ap Length (omega arith))
+    length-found l n e = rw (text-found l) (ap (λ (k : ℕ). accepted k 0 0) (omega arith))
 
   -- what a length tells
-  pub length-told : (n : ℕ) → Length n ≡ lengthOf (textAt m place) → (wellFormed m ≡ true) × (place < length (decode m)) × (n ≡ length (canonicalAt m place))
+  pub length-told : (n : ℕ) → accepted n 0 0 ≡ lengthOf (textAt m place) → (wellFormed m ≡ true) × (place < length (decode m)) × (n ≡ length (canonicalAt m place))
   unfolding textAt lengthOf
   length-told n e = go (wellFormed m) (ltb place (length (decode m))) refl refl e
     where
       go : (x y : Bool) → wellFormed m ≡ x → ltb place (length (decode m)) ≡ y
-          → Length n ≡ lengthOf (cond x (cond y (found (canonicalAt m place)) (refused (refusal NoSuchPlace place 0))) (refused (refusal NotWellFormed place 0)))
+          → accepted n 0 0 ≡ lengthOf (cond x (cond y (found (canonicalAt m place)) (refused (refusal NoSuchPlace place 0))) (refused (refusal NotWellFormed place 0)))
           → (wellFormed m ≡ true) × (place < length (decode m)) × (n ≡ length (canonicalAt m place))
-      go true true p q e = (p, ltb-true place (length (decode m)) q, cc)
-      go true false p q e = let z : _≡_ {A = ℕ} 0 1 = cc in absurd (omega arith)
-      go false y p q e = let z : _≡_ {A = ℕ} 0 1 = cc in absurd (omega arith)
+      go true true p q e = (p, ltb-true place (length (decode m)) q, first e)
+      go true false p q e = absurd (never-both (refusal NoSuchPlace place 0) _ _ _ (sym e))
+      go false y p q e = absurd (never-both (refusal NotWellFormed place 0) _ _ _ (sym e))
 
   -- and a refusal
-  pub refused-told : (r : Refusal) → Refused r ≡ lengthOf (textAt m place) → textAt m place ≡ refused r
+  pub refused-told : (r : Refusal) → ofRefusal r ≡ lengthOf (textAt m place) → textAt m place ≡ refused r
   unfolding lengthOf
   refused-told r e = go (textAt m place) e
     where
-      go : (f : Found) → Refused r ≡ lengthOf f → f ≡ refused r
-      go (found s) e = let z : _≡_ {A = ℕ} 0 1 = cc in absurd (omega arith)
-      go (refused q) e = cc
+      go : (f : Found) → ofRefusal r ≡ lengthOf f → f ≡ refused r
+      go (found s) e = absurd (never-both r _ _ _ e)
+      go (refused q) e = ap refused (refusal-one q r (sym e))
 
   -- ---- into a buffer
 
   module _ (offset : ℕ) (b : List ℕ) where
-    pub canonical-refused : (r : Refusal) → Refused r ≡ lengthOf (textAt m place) → (Refused r ≡ lengthOf (writtenAt m place offset (length b))) × (b ≡ bufferAfter (writtenAt m place offset (length b)) b offset)
+    pub canonical-refused : {a : Written} {r : Refusal} → a ≡ Refused r → numbersOfWritten a ≡ lengthOf (textAt m place) → (ofRefusal r ≡ lengthOf (writtenAt m place offset (length b))) × (b ≡ bufferAfter (writtenAt m place offset (length b)) b offset)
     unfolding writtenAt lengthOf bufferAfter
-    canonical-refused r e = rw (refused-told r e) (refl, refl)
+    canonical-refused {r = r} g e = rw (refused-told r (sym (ap numbersOfWritten g) ∙ e)) (refl, refl)
 
-    module _ (n : ℕ) (e : Length n ≡ lengthOf (textAt m place)) where
+    module _ (n : ℕ) (e : accepted n 0 0 ≡ lengthOf (textAt m place)) where
       abbrev s : List ℕ
       s = canonicalAt m place
 
       text-is : textAt m place ≡ found s
       text-is = let t = length-told n e in text-found (t .0) (t .1)
 
-      pub canonical-full : leb (offset + n) (length b) ≡ false → (Refused (refusal NoRoom place n) ≡ lengthOf (writtenAt m place offset (length b))) × (b ≡ bufferAfter (writtenAt m place offset (length b)) b offset)
+      pub canonical-full : leb (offset + n) (length b) ≡ false → (ofRefusal (refusal NoRoom place n) ≡ lengthOf (writtenAt m place offset (length b))) × (b ≡ bufferAfter (writtenAt m place offset (length b)) b offset)
       unfolding writtenAt lengthOf bufferAfter
       canonical-full h = let k = length-told n e .2 in rw (text-is, ← k, h) (refl, refl)
 
@@ -215,24 +219,24 @@ module _ (m : List ℕ) (place : ℕ) where
         canonical-room = omega (arith, leb-true (offset + n) (length b) h)
 
         pub canonical-written : (ys : List ℕ) (k : ℕ) → Wrote (midOf offset (length b - offset) b) 0 ys k s
-            → (Length n ≡ lengthOf (writtenAt m place offset (length b))) × (putMid offset (length b - offset) b ys ≡ bufferAfter (writtenAt m place offset (length b)) b offset)
+            → (accepted n 0 0 ≡ lengthOf (writtenAt m place offset (length b))) × (putMid offset (length b - offset) b ys ≡ bufferAfter (writtenAt m place offset (length b)) b offset)
         unfolding writtenAt lengthOf bufferAfter
         canonical-written ys k w =
             let q = length-told n e .2 in
             let g = (wrote-lent b ys offset offset k s (omega (arith, canonical-room)) w) .bytes in
-            rw (text-is, ← q, h) (ap Length q, g)
+            rw (text-is, ← q, h) (ap (λ (k : ℕ). accepted k 0 0) q, g)
 
   -- ---- the fingerprint
 
-  pub print-refused : (r : Refusal) → Refused r ≡ lengthOf (textAt m place) → NoPrint r ≡ printOf (textAt m place)
+  pub print-refused : {a : Written} {r : Refusal} → a ≡ Refused r → numbersOfWritten a ≡ lengthOf (textAt m place) → numbersOfPrint (NoPrint r) ≡ printOf (textAt m place)
   unfolding printOf
-  print-refused r e = rw (refused-told r e)
+  print-refused {r = r} g e = rw (refused-told r (sym (ap numbersOfWritten g) ∙ e))
 
-  module _ (n : ℕ) (e : Length n ≡ lengthOf (textAt m place)) where
+  module _ (n : ℕ) (e : accepted n 0 0 ≡ lengthOf (textAt m place)) where
     pub print-fits : n ≤ textLimit
     print-fits = let t = length-told n e in omega (arith, canonical-short m (t .0) place (t .1), t .2)
 
-    pub print-found : (b b′ : List ℕ) (k : ℕ) → length b ≡ textLimit → Wrote b 0 b′ k (canonicalAt m place) → (x : ℤ) → x ≡ rabinOf (take (n - 0) (drop 0 b′)) → Fingerprint x ≡ printOf (textAt m place)
+    pub print-found : (b b′ : List ℕ) (k : ℕ) → length b ≡ textLimit → Wrote b 0 b′ k (canonicalAt m place) → (x : ℤ) → x ≡ rabinOf (take (n - 0) (drop 0 b′)) → numbersOfPrint (Fingerprint x) ≡ printOf (textAt m place)
     unfolding printOf
     print-found b b′ k h w x q =
         let t = length-told n e in
@@ -240,7 +244,21 @@ module _ (m : List ℕ) (place : ℕ) where
         let f : 0 + length a ≤ length b = omega (arith, print-fits, t .2) in
         let g : b′ ≡ a ++ drop (0 + length a) b = w .bytes ∙ store-fits b 0 a f in
         let z : take (n - 0) (drop 0 b′) ≡ a = rw (sub-zero, g) (take-at a (drop (0 + length a) b) n (sym (t .2))) in
-        rw (text-found (t .0) (t .1)) (ap Fingerprint (q ∙ ap rabinOf z))
+        rw (text-found (t .0) (t .1)) (ap (λ (f : ℤ). numbersOfPrint (Fingerprint f)) (q ∙ ap rabinOf z))
+
+-- ---- the numbers tell the answer
+
+pub written-one : (a b : Written) → numbersOfWritten a ≡ numbersOfWritten b → a ≡ b
+written-one (Length n) (Length k) e = ap Length (first e)
+written-one (Length n) (Refused s) e = absurd (never-both s _ _ _ (sym e))
+written-one (Refused r) (Length k) e = absurd (never-both r _ _ _ e)
+written-one (Refused r) (Refused s) e = ap Refused (refusal-one r s e)
+
+pub print-one : (a b : Print) → numbersOfPrint a ≡ numbersOfPrint b → a ≡ b
+print-one (Fingerprint f) (Fingerprint g) e = λ i. Fingerprint (e i .1)
+print-one (Fingerprint f) (NoPrint s) e = absurd (never-both s _ _ _ (λ i. sym e i .0))
+print-one (NoPrint r) (Fingerprint g) e = absurd (never-both r _ _ _ (λ i. e i .0))
+print-one (NoPrint r) (NoPrint s) e = ap NoPrint (refusal-one r s (λ i. e i .0))
 
 -- ---- room
 

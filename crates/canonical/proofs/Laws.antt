@@ -24,6 +24,8 @@ use Rattle.canonical.specs.Walk.{textLimit, rowCost}
 use Rattle.canonical.proofs.TextLaws.{text-short}
 use Rattle.canonical.proofs.CallLaws.{set-short, canonical-short}
 use Rattle.canonical.proofs.SameLaws.{schema-written}
+-- the numbers of an answer tell it
+pub use Rattle.canonical.proofs.CallLaws.{written-one, print-one}
 -- more fuel than there are rows changes nothing
 pub use Rattle.canonical.proofs.FuelLaws.{enough}
 -- positions, aliases, notes, precision and scale change nothing

@@ -4,10 +4,13 @@ use Prim.Native.Nat.{ℕ, zero, suc, _+_}
 use mathlib.Core.Bool.{cond}
 use mathlib.Core.List.{List, [], _∷_}
 use lib.Dec.{leb, ltb}
+use lib.IntN.{ℤ, pos}
 use lib.ListN.{length}
 use Rattle.answer.specs.declared.refusal.Why.{Why}
 use Rattle.answer.specs.declared.refusal.Why.the-variants.{NotWellFormed, NoSuchPlace, NoRoom}
 use Rattle.answer.specs.declared.refusal.Refusal.{Refusal}
+use Rattle.answer.specs.declared.numbers.Numbers.{Numbers}
+use Rattle.answer.specs.Answers.{accepted, ofRefusal}
 use Rattle.ground.specs.Bytes.{store}
 use Rattle.rabin.specs.Rabin.{rabinOf}
 use Rattle.row.specs.Rows.{Row}
@@ -48,17 +51,27 @@ inRoom (refused r) place offset room = refused r
 unfoldable pub writtenAt : List ℕ → ℕ → ℕ → ℕ → Found
 writtenAt m place offset room = inRoom (textAt m place) place offset room
 
--- ---- what is answered
+-- ---- what is answered, in 01's numbers: 0 and the text's length, or the refusal's number, place and position
 
-unfoldable pub lengthOf : Found → Written
-lengthOf (found s) = text.Length (length s)
-lengthOf (refused r) = text.Refused r
+-- the contracts read an answer by them, for each of its cases; they tell the answer (laws `written-one`, `print-one`)
+abbrev pub numbersOfWritten : Written → Numbers
+numbersOfWritten (text.Length n) = accepted n 0 0
+numbersOfWritten (text.Refused r) = ofRefusal r
+
+unfoldable pub lengthOf : Found → Numbers
+lengthOf (found s) = accepted (length s) 0 0
+lengthOf (refused r) = ofRefusal r
 
 -- all bytes but those of the text stay
 unfoldable pub bufferAfter : Found → List ℕ → ℕ → List ℕ
 bufferAfter (found s) buffer offset = store buffer offset s
 bufferAfter (refused r) buffer offset = buffer
 
-unfoldable pub printOf : Found → Print
-printOf (found s) = print.Fingerprint (rabinOf s)
-printOf (refused r) = print.Refused r
+-- beside the numbers the fingerprint, 0 where it is refused
+abbrev pub numbersOfPrint : Print → Numbers × ℤ
+numbersOfPrint (print.Fingerprint f) = (accepted 0 0 0, f)
+numbersOfPrint (print.Refused r) = (ofRefusal r, pos 0)
+
+unfoldable pub printOf : Found → Numbers × ℤ
+printOf (found s) = (accepted 0 0 0, rabinOf s)
+printOf (refused r) = (ofRefusal r, pos 0)

@@ -16,7 +16,7 @@ ghost use lib.ListN.{length};
 ghost use Rattle.row.specs.Sets.{decode};
 ghost use Rattle.resolve.specs.WellFormed.{wellFormed};
 ghost use Rattle.canonical.specs.Canonical.{canonicalOf};
-ghost use Rattle.canonical.specs.Calls.{refusal, rowsAt, textAt, writtenAt, lengthOf, bufferAfter, printOf};
+ghost use Rattle.canonical.specs.Calls.{refusal, rowsAt, textAt, writtenAt, numbersOfWritten, lengthOf, bufferAfter, numbersOfPrint, printOf};
 ghost use Rattle.canonical.specs.Wrote.{Wrote};
 
 fn refusal(why: Why, place: usize, at: usize) -> Refusal
@@ -37,7 +37,7 @@ fn write_declaration(mem: &[u8], place: usize, part: &mut [u8]) -> usize
 
 // How long the canonical text of the declaration at a place is: written where there is no room.
 pub fn canonical_length(mem: &[u8], place: usize) -> Written
-    ensures { λ r. ⌜ r ≡ lengthOf (textAt (now (mem .entry)) place) ⌝ }
+    ensures { λ r. ⌜ numbersOfWritten r ≡ lengthOf (textAt (now (mem .entry)) place) ⌝ }
 {
     if !well_formed(mem) {
         return Written::Refused(refusal(Why::NotWellFormed, place, 0));
@@ -61,7 +61,7 @@ fn has_room(n: usize, offset: usize, room: usize) -> bool
 
 // The canonical text of the declaration at a place into a buffer, from an offset on.
 pub fn canonical(mem: &[u8], place: usize, buffer: &mut [u8], offset: usize) -> Written
-    ensures { λ r. ⌜ (r ≡ lengthOf (writtenAt (now (mem .entry)) place offset (length (now (buffer .entry)))))
+    ensures { λ r. ⌜ (numbersOfWritten r ≡ lengthOf (writtenAt (now (mem .entry)) place offset (length (now (buffer .entry)))))
         × (now (buffer .exit) ≡ bufferAfter (writtenAt (now (mem .entry)) place offset (length (now (buffer .entry)))) (now (buffer .entry)) offset) ⌝ }
 {
     match canonical_length(mem, place) {
@@ -78,7 +78,7 @@ pub fn canonical(mem: &[u8], place: usize, buffer: &mut [u8], offset: usize) -> 
 
 // The fingerprint of the canonical text of the declaration at a place.
 pub fn fingerprint(mem: &[u8], place: usize) -> Print
-    ensures { λ r. ⌜ r ≡ printOf (textAt (now (mem .entry)) place) ⌝ }
+    ensures { λ r. ⌜ numbersOfPrint r ≡ printOf (textAt (now (mem .entry)) place) ⌝ }
 {
     match canonical_length(mem, place) {
         Written::Refused(r) => Print::Refused(r),

@@ -10,6 +10,7 @@ use lib.ListN.{length, length-append}
 use borrow.Author.Tests.{lt-ltb, le-ltb}
 use Rattle.answer.specs.declared.Answer.{Answer}
 use Rattle.answer.specs.declared.Answer.the-variants.{Done, Refused}
+use Rattle.answer.specs.Answers.{ofCounts}
 use Rattle.answer.specs.declared.counts.Counts.{Counts}
 use Rattle.answer.specs.declared.refusal.Why.the-variants.{TooManyRows, TooManyStringBytes}
 use Rattle.answer.specs.declared.refusal.Refusal.{Refusal}
@@ -38,11 +39,11 @@ use Rattle.set.proofs.Places.{is-encoded, is-good, is-long, is-count, i
 
 pub ended-no : (m : List ℕ) (r : Refusal) {x : Result} → x ≡ refuses r → Ended m m (Refused r) x
 unfolding answerOf memoryOf
-ended-no m r e = record { answer = rw e; memory = rw e }
+ended-no m r e = record { answer = sym (ap answerOf e); memory = rw e }
 
 pub ended-done : (m : List ℕ) (ds : List (List Row)) {x : Result} → x ≡ becomes ds → {c : Counts} {m′ : List ℕ} → c ≡ setCounts ds → m′ ≡ encode ds → Ended m m′ (Done c) x
 unfolding answerOf memoryOf
-ended-done m ds e p q = record { answer = rw (e, p); memory = rw (e, q) }
+ended-done m ds e p q = record { answer = ap ofCounts p ∙ sym (ap answerOf e); memory = rw (e, q) }
 
 pub ended-as : {m m′ : List ℕ} {r : Answer} {x y : Result} → x ≡ y → Ended m m′ r y → Ended m m′ r x
 ended-as e d = record { answer = d .answer ∙ ap answerOf (sym e); memory = d .memory ∙ ap (memoryOf _) (sym e) }

@@ -9,6 +9,7 @@ use lib.ListN.{length, take, drop, length-take, drop-of-length-le}
 use borrow.Author.Tests.{lt-ltb, le-ltb, eq-eqb, ne-eqb}
 use Rattle.answer.specs.declared.Answer.{Answer}
 use Rattle.answer.specs.declared.Answer.the-variants.{Done, Refused}
+use Rattle.answer.specs.Answers.{numbersOf}
 use Rattle.answer.specs.declared.counts.Counts.{Counts}
 use Rattle.answer.specs.declared.refusal.Why.the-variants.{NotWellFormed, NoSuchPlace, TooManyDeclarations}
 use Rattle.answer.specs.declared.refusal.Refusal.{Refusal}
@@ -29,7 +30,7 @@ use Rattle.schema.specs.declared.walked.Walked.the-variants.{Read, Bad}
 use Rattle.schema.specs.Out.{Out}
 use Rattle.schema.specs.Schema.{declared}
 use Rattle.schema.specs.Did.{Did}
-use Rattle.set.specs.Lists.{Result, refuse, next, onRows, append, appendAll, addTo, replaceIn}
+use Rattle.set.specs.Lists.{Result, refuses, refuse, next, onRows, append, appendAll, addTo, replaceIn}
 use Rattle.set.specs.Calls.{answerOf, memoryOf, onSet, opened, added, replaced}
 use Rattle.set.specs.Steps.{Drafted, IsDraft, Wrote, Ended}
 use Rattle.set.proofs.Places.{is-good, is-long, is-count}
@@ -38,17 +39,21 @@ use Rattle.set.proofs.Rests.{told-no, told-done, Stepped, stepped}
 use Rattle.set.proofs.Drafts.{read-not, read-rows, is-draft}
 
 -- what a public call promises, of what its parts did
-pub both : {m m′ : List ℕ} {r : Answer} {x : Result} → Ended m m′ r x → (r ≡ answerOf x) × (m′ ≡ memoryOf m x)
+pub both : {m m′ : List ℕ} {r : Answer} {x : Result} → Ended m m′ r x → (numbersOf r ≡ answerOf x) × (m′ ≡ memoryOf m x)
 both d = (d .answer, d .memory)
+
+-- of a refusal
+no-both : (m : List ℕ) {r : Answer} {s : Refusal} {x : Result} → r ≡ Refused s → x ≡ refuses s → (numbersOf r ≡ answerOf x) × (m ≡ memoryOf m x)
+no-both m {s = s} g e = let d = ended-no m s e in (ap numbersOf g ∙ d .answer, d .memory)
 
 -- ---- open
 
 module _ (m : List ℕ) where
-  pub open-not : (length m ≡ layoutLength → ⊥) → {r : Answer} → r ≡ Refused (record { why = NotWellFormed; place = 0; at = 0 }) → (r ≡ answerOf (opened m)) × (m ≡ memoryOf m (opened m))
+  pub open-not : (length m ≡ layoutLength → ⊥) → {r : Answer} → r ≡ Refused (record { why = NotWellFormed; place = 0; at = 0 }) → (numbersOf r ≡ answerOf (opened m)) × (m ≡ memoryOf m (opened m))
   unfolding opened
-  open-not h g = rw g (both (ended-no m _ (rw (ne-eqb (length m) layoutLength h))))
+  open-not h g = no-both m g (rw (ne-eqb (length m) layoutLength h))
 
-  pub open-done : length m ≡ layoutLength → {c : Counts} {m′ : List ℕ} → c ≡ noCounts → m′ ≡ zeros (length m) → (Done c ≡ answerOf (opened m)) × (m′ ≡ memoryOf m (opened m))
+  pub open-done : length m ≡ layoutLength → {c : Counts} {m′ : List ℕ} → c ≡ noCounts → m′ ≡ zeros (length m) → (numbersOf (Done c) ≡ answerOf (opened m)) × (m′ ≡ memoryOf m (opened m))
   unfolding opened setCounts flat texts
   open-done h p q = both (ended-done m [] (rw (eq-eqb (length m) layoutLength h)) p (q ∙ ap zeros h ∙ sym encode-none))
 
@@ -66,17 +71,17 @@ module _ (m : List ℕ) (place : ℕ) (change : List (List Row) → Result) wher
 -- ---- add
 
 module _ (m t : List ℕ) where
-  pub add-not : wellFormed m ≡ false → {r : Answer} → r ≡ Refused (record { why = NotWellFormed; place = 0; at = 0 }) → (r ≡ answerOf (added m t)) × (m ≡ memoryOf m (added m t))
+  pub add-not : wellFormed m ≡ false → {r : Answer} → r ≡ Refused (record { why = NotWellFormed; place = 0; at = 0 }) → (numbersOf r ≡ answerOf (added m t)) × (m ≡ memoryOf m (added m t))
   unfolding added
-  add-not w g = rw g (both (ended-no m _ (set-not m 0 (λ ds. addTo ds t) w)))
+  add-not w g = no-both m g (set-not m 0 (λ ds. addTo ds t) w)
 
   module _ (w : wellFormed m ≡ true) (n : ℕ) (e : n ≡ countIn m) where
     count-is : n ≡ length (decode m)
     count-is = e ∙ is-count m w
 
-    pub add-many : declarationLimit ≤ n → {r : Answer} → r ≡ Refused (record { why = TooManyDeclarations; place = declarationLimit; at = 0 }) → (r ≡ answerOf (added m t)) × (m ≡ memoryOf m (added m t))
+    pub add-many : declarationLimit ≤ n → {r : Answer} → r ≡ Refused (record { why = TooManyDeclarations; place = declarationLimit; at = 0 }) → (numbersOf r ≡ answerOf (added m t)) × (m ≡ memoryOf m (added m t))
     unfolding added addTo
-    add-many h g = rw g (both (ended-no m _ (set-well m 0 (λ ds. addTo ds t) w ∙ rw (← count-is, le-ltb n declarationLimit h))))
+    add-many h g = no-both m g (set-well m 0 (λ ds. addTo ds t) w ∙ rw (← count-is, le-ltb n declarationLimit h))
 
     module _ (l : n < declarationLimit) where
       add-is : added m t ≡ onRows (declared t) n (append (decode m))
@@ -84,15 +89,15 @@ module _ (m t : List ℕ) where
       add-is = set-well m 0 (λ ds. addTo ds t) w ∙ rw (← count-is, lt-ltb n declarationLimit l)
 
       module _ {d : List ℕ} {walked : Walked} (did : Wrote d walked (declared t)) where
-        pub add-bad : {f : Fault} → walked ≡ Bad f → {r : Refusal} → r ≡ placed f n → (Refused r ≡ answerOf (added m t)) × (m ≡ memoryOf m (added m t))
-        add-bad h g = rw g (both (ended-no m _ (add-is ∙ rw (read-not (declared t) did h))))
+        pub add-bad : {f : Fault} → walked ≡ Bad f → {r : Refusal} → r ≡ placed f n → (numbersOf (Refused r) ≡ answerOf (added m t)) × (m ≡ memoryOf m (added m t))
+        add-bad h g = no-both m (ap Refused g) (add-is ∙ rw (read-not (declared t) did h))
 
         pub add-asks : (c : Counts) → walked ≡ Read c → (wellFormed m ≡ true) × (countIn m < declarationLimit) × IsDraft d 0 (c .rows) (c .«string_bytes»)
         add-asks c h = (w, omega arith, is-draft (declared t) did h)
 
         pub add-rows : (c : Counts) → walked ≡ Read c → {r : Answer} {m′ : List ℕ}
             → ((rows : List Row) → Drafted d 0 (c .rows) (c .«string_bytes») rows → Ended m m′ r (append (decode m) rows))
-            → (r ≡ answerOf (added m t)) × (m′ ≡ memoryOf m (added m t))
+            → (numbersOf r ≡ answerOf (added m t)) × (m′ ≡ memoryOf m (added m t))
         add-rows c h end =
             let x = read-rows (declared t) did h in
             both (ended-as (add-is ∙ ap (λ (o : Out). onRows o n (append (decode m))) (x .1)) (end (x .0) (x .2)))
@@ -163,14 +168,14 @@ module _ (m : List ℕ) (w : wellFormed m ≡ true) (place : ℕ) (l : place < c
 -- ---- replace
 
 module _ (m : List ℕ) (place : ℕ) (t : List ℕ) where
-  pub replace-not : wellFormed m ≡ false → {r : Answer} → r ≡ Refused (record { why = NotWellFormed; place = place; at = 0 }) → (r ≡ answerOf (replaced m place t)) × (m ≡ memoryOf m (replaced m place t))
+  pub replace-not : wellFormed m ≡ false → {r : Answer} → r ≡ Refused (record { why = NotWellFormed; place = place; at = 0 }) → (numbersOf r ≡ answerOf (replaced m place t)) × (m ≡ memoryOf m (replaced m place t))
   unfolding replaced
-  replace-not w g = rw g (both (ended-no m _ (set-not m place (λ ds. replaceIn ds place t) w)))
+  replace-not w g = no-both m g (set-not m place (λ ds. replaceIn ds place t) w)
 
   module _ (w : wellFormed m ≡ true) (n : ℕ) (e : n ≡ countIn m) where
-    pub replace-place : n ≤ place → {r : Answer} → r ≡ Refused (record { why = NoSuchPlace; place = place; at = 0 }) → (r ≡ answerOf (replaced m place t)) × (m ≡ memoryOf m (replaced m place t))
+    pub replace-place : n ≤ place → {r : Answer} → r ≡ Refused (record { why = NoSuchPlace; place = place; at = 0 }) → (numbersOf r ≡ answerOf (replaced m place t)) × (m ≡ memoryOf m (replaced m place t))
     unfolding replaced replaceIn
-    replace-place h g = rw g (both (ended-no m _ (set-well m place (λ ds. replaceIn ds place t) w ∙ rw (← is-count m w, ← e, le-ltb place n h))))
+    replace-place h g = no-both m g (set-well m place (λ ds. replaceIn ds place t) w ∙ rw (← is-count m w, ← e, le-ltb place n h))
 
     module _ (l : place < n) where
       replace-is : replaced m place t ≡ onRows (declared t) place (λ rows. appendAll (take place (decode m)) (rows ∷ drop (place + 1) (decode m)))
@@ -178,15 +183,15 @@ module _ (m : List ℕ) (place : ℕ) (t : List ℕ) where
       replace-is = set-well m place (λ ds. replaceIn ds place t) w ∙ rw (← is-count m w, ← e, lt-ltb place n l)
 
       module _ {d : List ℕ} {walked : Walked} (did : Wrote d walked (declared t)) where
-        pub replace-bad : {f : Fault} → walked ≡ Bad f → {r : Refusal} → r ≡ placed f place → (Refused r ≡ answerOf (replaced m place t)) × (m ≡ memoryOf m (replaced m place t))
-        replace-bad h g = rw g (both (ended-no m _ (replace-is ∙ rw (read-not (declared t) did h))))
+        pub replace-bad : {f : Fault} → walked ≡ Bad f → {r : Refusal} → r ≡ placed f place → (numbersOf (Refused r) ≡ answerOf (replaced m place t)) × (m ≡ memoryOf m (replaced m place t))
+        replace-bad h g = no-both m (ap Refused g) (replace-is ∙ rw (read-not (declared t) did h))
 
         pub replace-asks : (c : Counts) → walked ≡ Read c → (wellFormed m ≡ true) × (place < countIn m) × IsDraft d 0 (c .rows) (c .«string_bytes»)
         replace-asks c h = (w, omega arith, is-draft (declared t) did h)
 
         pub replace-rows : (c : Counts) → walked ≡ Read c → {r : Answer} {m′ : List ℕ}
             → ((rows : List Row) → Drafted d 0 (c .rows) (c .«string_bytes») rows → Ended m m′ r (appendAll (take place (decode m)) (rows ∷ drop (place + 1) (decode m))))
-            → (r ≡ answerOf (replaced m place t)) × (m′ ≡ memoryOf m (replaced m place t))
+            → (numbersOf r ≡ answerOf (replaced m place t)) × (m′ ≡ memoryOf m (replaced m place t))
         replace-rows c h end =
             let x = read-rows (declared t) did h in
             both (ended-as (replace-is ∙ ap (λ (o : Out). onRows o place (λ rows. appendAll (take place (decode m)) (rows ∷ drop (place + 1) (decode m)))) (x .1)) (end (x .0) (x .2)))

@@ -1,3 +1,5 @@
+-- `Laws` is what callers cite; the others are what the proofs here use.
+pub mod Laws
 mod Places
 mod Appends
 mod Drafts

@@ -10,6 +10,8 @@ use lib.ListN.{length, take, drop, length-append, length-take, length-replicate,
 use borrow.Author.Tests.{ltb-false}
 use Rattle.answer.specs.declared.Answer.{Answer}
 use Rattle.answer.specs.declared.Answer.the-variants.{Done, Refused}
+use Rattle.answer.specs.Answers.{numbersOf}
+use Rattle.answer.proofs.Laws.{refusal-one, counts-one, never-both}
 use Rattle.answer.specs.declared.counts.Counts.{Counts}
 use Rattle.answer.specs.declared.refusal.Why.the-variants.{TooManyRows, TooManyStringBytes}
 use Rattle.answer.specs.declared.refusal.Refusal.{Refusal}
@@ -88,15 +90,15 @@ copied-all m place i l h out c z = let e : i ≡ place = omega arith in z .bytes
 
 -- ---- what an answer tells
 
-pub told-no : (x : Result) {a : Answer} {r : Refusal} → a ≡ answerOf x → a ≡ Refused r → x ≡ refuses r
+pub told-no : (x : Result) {a : Answer} {r : Refusal} → numbersOf a ≡ answerOf x → a ≡ Refused r → x ≡ refuses r
 unfolding answerOf
-told-no (becomes d) p q = cc
-told-no (refuses s) p q = cc
+told-no (becomes d) {r = r} p q = absurd (never-both r _ _ _ (sym (ap numbersOf q) ∙ p))
+told-no (refuses s) {r = r} p q = ap refuses (refusal-one s r (sym p ∙ ap numbersOf q))
 
-pub told-done : (x : Result) {a : Answer} {c : Counts} → a ≡ answerOf x → a ≡ Done c → (d : List (List Row)) × (x ≡ becomes d) × (c ≡ setCounts d)
+pub told-done : (x : Result) {a : Answer} {c : Counts} → numbersOf a ≡ answerOf x → a ≡ Done c → (d : List (List Row)) × (x ≡ becomes d) × (c ≡ setCounts d)
 unfolding answerOf
-told-done (becomes d) p q = (d, refl, cc)
-told-done (refuses s) p q = ([], cc, cc)
+told-done (becomes d) {c = c} p q = (d, refl, counts-one c (setCounts d) (sym (ap numbersOf q) ∙ p))
+told-done (refuses s) p q = absurd (never-both s _ _ _ (sym p ∙ ap numbersOf q))
 
 -- ---- a declaration that was accepted
 

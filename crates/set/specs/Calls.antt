@@ -5,8 +5,8 @@ use mathlib.Core.Bool.{cond}
 use mathlib.Core.List.{List, []}
 use lib.Dec.{eqb}
 use lib.ListN.{length}
-use Rattle.answer.specs.declared.Answer.{Answer}
-use Rattle.answer.specs.declared.Answer.the-variants.{Done, Refused}
+use Rattle.answer.specs.declared.numbers.Numbers.{Numbers}
+use Rattle.answer.specs.Answers.{ofCounts, ofRefusal}
 use Rattle.answer.specs.declared.refusal.Why.the-variants.{NotWellFormed}
 use Rattle.row.specs.Layout.{layoutLength}
 use Rattle.row.specs.Rows.{Row}
@@ -15,10 +15,11 @@ use Rattle.row.specs.Memory.{setCounts}
 use Rattle.resolve.specs.WellFormed.{wellFormed}
 use Rattle.set.specs.Lists.{Result, becomes, refuses, refuse, addTo, replaceIn}
 
--- an accepted call answers the set's three counts
-unfoldable pub answerOf : Result → Answer
-answerOf (becomes ds) = Done (setCounts ds)
-answerOf (refuses r) = Refused r
+-- in 01's numbers: an accepted call answers 0 and the set's three counts, a refused one the refusal's number, place and position. The contracts read an
+-- answer by `numbersOf` of `answer`; two answers with the same numbers are one (law `numbers-one` there), so nothing is lost
+unfoldable pub answerOf : Result → Numbers
+answerOf (becomes ds) = ofCounts (setCounts ds)
+answerOf (refuses r) = ofRefusal r
 
 -- a refusal leaves every byte as it was
 unfoldable pub memoryOf : List ℕ → Result → List ℕ

@@ -2,22 +2,31 @@
 -- Assumes nothing.
 use Prim.Native.Nat.{ℕ, _+_, _≤_, min}
 use mathlib.Core.Path.{_≡_}
-use mathlib.Core.Bool.{true}
-use mathlib.Core.List.{List}
+use mathlib.Core.Bool.{true, cond}
+use mathlib.Core.List.{List, []}
 use lib.ListN.{length}
 use Rattle.answer.specs.declared.Answer.{Answer}
 use Rattle.answer.specs.declared.counts.Counts.{Counts}
 use Rattle.answer.specs.Limits.{countsOf}
+use Rattle.answer.specs.Answers.{numbersOf}
 use Rattle.row.specs.Layout.{rowLimit, stringLimit, layoutLength}
 use Rattle.row.specs.Rows.{Row, texts}
 use Rattle.row.specs.Sets.{rowsFrom}
-use Rattle.row.specs.Memory.{most, countedAll, pushedAll, declared}
+use Rattle.row.specs.Memory.{entryAt, textAt, textPlace, most, countedAll, pushedAll, declared}
 use Rattle.resolve.specs.Rules.{isDeclaration}
 use Rattle.schema.specs.Out.{Out, refused, read}
 use Rattle.schema.specs.declared.walked.Walked.{Walked}
 use Rattle.schema.specs.declared.walked.Walked.the-variants.{Read, Bad}
 use Rattle.set.specs.Lists.{Result}
 use Rattle.set.specs.Calls.{answerOf, memoryOf}
+use Rattle.set.specs.Naming.{hasFullName}
+
+-- the full name of a row of the memory, and where it begins
+unfoldable pub rowName : List ℕ → ℕ → List ℕ
+rowName m i = cond (hasFullName (entryAt m i .kind)) (textAt m i) []
+
+unfoldable pub rowNameStart : List ℕ → ℕ → ℕ
+rowNameStart m i = cond (hasFullName (entryAt m i .kind)) (textPlace m i) 0
 
 -- rows behind those that are counted, as one declaration more: the counts, and the memory
 unfoldable pub countedMore : Counts → List Row → Counts
@@ -49,5 +58,5 @@ pub record Wrote (d : List ℕ) (r : Walked) (o : Out) : Type 0 where
 
 -- memory that held m holds m′, and the answer is r: what became of the set is x
 pub record Ended (m m′ : List ℕ) (r : Answer) (x : Result) : Type 0 where
-  pub answer : r ≡ answerOf x
+  pub answer : numbersOf r ≡ answerOf x
   pub memory : m′ ≡ memoryOf m x

@@ -21,6 +21,7 @@ ghost use mathlib.Core.Bool.{true};
 ghost use mathlib.Core.List.{List, _∷_};
 ghost use Prim.Native.Nat.{_+_, _≤_, _<_};
 ghost use lib.ListN.{length, take, drop};
+ghost use Rattle.answer.specs.Answers.{numbersOf};
 ghost use Rattle.row.specs.Layout.{layoutLength};
 ghost use Rattle.row.specs.Rows.{Row};
 ghost use Rattle.row.specs.Sets.{zeros, countIn, encode, decode};
@@ -32,7 +33,7 @@ ghost use Rattle.set.specs.Steps.{Drafted, IsDraft, Wrote, Ended};
 
 // Memory of the layout's length becomes the empty set, whatever it held.
 pub fn open(mem: &mut [u8]) -> Answer
-    ensures { λ r. ⌜ (r ≡ answerOf (opened (now (mem .entry))))
+    ensures { λ r. ⌜ (numbersOf r ≡ answerOf (opened (now (mem .entry))))
         × (now (mem .exit) ≡ memoryOf (now (mem .entry)) (opened (now (mem .entry)))) ⌝ }
 {
     if mem.len() != Layout::LENGTH {
@@ -52,7 +53,7 @@ fn read_text(text: &[u8], draft: &mut [u8]) -> Walked
 
 // One declaration more, by its text.
 pub fn add(mem: &mut [u8], text: &[u8]) -> Answer
-    ensures { λ r. ⌜ (r ≡ answerOf (added (now (mem .entry)) (now (text .entry))))
+    ensures { λ r. ⌜ (numbersOf r ≡ answerOf (added (now (mem .entry)) (now (text .entry))))
         × (now (mem .exit) ≡ memoryOf (now (mem .entry)) (added (now (mem .entry)) (now (text .entry)))) ⌝ }
 {
     if !well_formed(mem) {
@@ -132,7 +133,7 @@ fn replace_by(mem: &mut [u8], place: usize, draft: &[u8], n: usize, bytes: usize
 
 // Another declaration at a place, by its text.
 pub fn replace(mem: &mut [u8], place: usize, text: &[u8]) -> Answer
-    ensures { λ r. ⌜ (r ≡ answerOf (replaced (now (mem .entry)) place (now (text .entry))))
+    ensures { λ r. ⌜ (numbersOf r ≡ answerOf (replaced (now (mem .entry)) place (now (text .entry))))
         × (now (mem .exit) ≡ memoryOf (now (mem .entry)) (replaced (now (mem .entry)) place (now (text .entry)))) ⌝ }
 {
     if !well_formed(mem) {

@@ -4,7 +4,7 @@ use mathlib.Core.Path.{sym, ap, _∙_}
 use native.Mathlib.Omega.{arith}
 use borrow.Author.Tests.{not-true, not-false}
 use borrow.Author.Needs.{needs}
-use Rattle.canonical.specs.declared.answers.Written.the-variants.{Refused}
+use Rattle.answer.specs.Answers.{ofRefusal}
 use Rattle.canonical.proofs.CallLaws.{formed-long, length-broken, length-absent, place-counted, length-found}
 use Rattle.canonical.proofs.calls.canonical_length.Statement.{statement}
 use Rattle.canonical.proofs.calls.canonical_length.Tie as tie
@@ -17,7 +17,7 @@ refusal-requires c κs = search needs
 
 returns : tie.Need-returns
 returns c =
-    ap Refused (c .refusal .ensures) ∙ length-broken _ _ (sym (c .before .before .well-formed .ensures) ∙ not-true _ (c .before .if1 .taken))
+    ap ofRefusal (c .refusal .ensures) ∙ length-broken _ _ (sym (c .before .before .well-formed .ensures) ∙ not-true _ (c .before .if1 .taken))
 
 declarations-requires : tie.Need-declarations-requires
 declarations-requires c κs = formed-long _ (sym (c .before .well-formed .ensures) ∙ not-false _ (c .if1 .left))
@@ -27,7 +27,7 @@ refusal-requires-2 c κs = search needs
 
 returns-2 : tie.Need-returns-2
 returns-2 c =
-    ap Refused (c .refusal2 .ensures) ∙ length-absent _ _ (sym (c .before .before .before .before .well-formed .ensures) ∙ not-false _ (c .before .before .before .if1 .left)) _ (c .before .before .declarations .ensures) (omega (arith, c .before .if2 .taken))
+    ap ofRefusal (c .refusal2 .ensures) ∙ length-absent _ _ (sym (c .before .before .before .before .well-formed .ensures) ∙ not-false _ (c .before .before .before .if1 .left)) _ (c .before .before .declarations .ensures) (omega (arith, c .before .if2 .taken))
 
 slice-aggregate-write-declaration : tie.Need-slice-aggregate-write-declaration
 slice-aggregate-write-declaration c = search needs

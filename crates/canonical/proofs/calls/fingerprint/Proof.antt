@@ -6,6 +6,8 @@ use native.Mathlib.Omega.{arith}
 use lib.ListN.{length-replicate}
 use mir.Facts.{toZ-ofZ}
 use borrow.Author.Needs.{sfits-of, needs}
+use lib.IntN.{ℤ}
+use Rattle.canonical.specs.Calls.{numbersOfWritten, numbersOfPrint}
 use Rattle.canonical.specs.Walk.{textLimit}
 use Rattle.canonical.specs.declared.answers.Print.the-variants.{Fingerprint}
 use Rattle.canonical.proofs.WriteLaws.{wrote-length}
@@ -27,7 +29,7 @@ slice-aggregate-write-declaration c = search needs
 
 write-declaration-requires : tie.Need-write-declaration-requires
 write-declaration-requires c κs =
-    let t = length-told _ _ _ (sym (c .before .before .n .given .1) ∙ c .before .before .before .before .canonical-length .ensures) in (t .0, t .1)
+    let t = length-told _ _ _ (sym (ap numbersOfWritten (c .before .before .n .given .1)) ∙ c .before .before .before .before .canonical-length .ensures) in (t .0, t .1)
 
 slice-aggregate-all : tie.Need-slice-aggregate-all
 slice-aggregate-all c = search needs
@@ -40,18 +42,18 @@ part-fingerprint-start c = search needs
 
 part-fingerprint-end : tie.Need-part-fingerprint-end
 part-fingerprint-end c =
-    omega (arith, print-fits _ _ _ (sym (c .before .before .before .before .before .n .given .1) ∙ c .before .before .before .before .before .before .before .canonical-length .ensures), wrote-length (c .before .before .write-declaration .ensures), length-replicate {A = ℕ} textLimit 0)
+    omega (arith, print-fits _ _ _ (sym (ap numbersOfWritten (c .before .before .before .before .before .n .given .1)) ∙ c .before .before .before .before .before .before .before .canonical-length .ensures), wrote-length (c .before .before .write-declaration .ensures), length-replicate {A = ℕ} textLimit 0)
 
 fingerprint-requires : tie.Need-fingerprint-requires
 fingerprint-requires c κs = search needs
 
 returns : tie.Need-returns
 returns c =
-    print-refused _ _ _ (sym (c .before .r .given .1) ∙ c .before .before .before .canonical-length .ensures)
+    print-refused _ _ (c .before .r .given .1) (c .before .before .before .canonical-length .ensures)
 
 returns-2 : tie.Need-returns-2
 returns-2 c =
-    ap Fingerprint (toZ-ofZ (sfits-of (c .fingerprint .ok))) ∙ print-found _ _ _ (sym (c .before .before .before .before .before .before .before .n .given .1) ∙ c .before .before .before .before .before .before .before .before .before .canonical-length .ensures) _ _ _ (length-replicate {A = ℕ} textLimit 0) (c .before .before .before .before .write-declaration .ensures) _ (c .fingerprint .ensures)
+    ap (λ (f : ℤ). numbersOfPrint (Fingerprint f)) (toZ-ofZ (sfits-of (c .fingerprint .ok))) ∙ print-found _ _ _ (sym (ap numbersOfWritten (c .before .before .before .before .before .before .before .n .given .1)) ∙ c .before .before .before .before .before .before .before .before .before .canonical-length .ensures) _ _ _ (length-replicate {A = ℕ} textLimit 0) (c .before .before .before .before .write-declaration .ensures) _ (c .fingerprint .ensures)
 
 pub fingerprint-spec : {M : Type 1} → statement M
 fingerprint-spec =

@@ -129,7 +129,7 @@ write-piece-string-of-requires t c κs = search needs
 
 write-piece-opening-requires : (t : ℕ) → write-piece-lts.Need-opening-requires (write-piece-calls t) (write-piece-at t) write-piece.Post
 write-piece-opening-requires t c κs =
-    name-fits _ _ _ (c .before .string-of .ensures) (c .before .before .before .before .before .before .pre .1 .0)
+    name-fits _ _ _ (c .before .string-of .ensures .0) (c .before .before .before .before .before .before .pre .1 .0)
 
 write-piece-least-requires : (t : ℕ) → write-piece-lts.Need-least-requires (write-piece-calls t) (write-piece-at t) write-piece.Post
 write-piece-least-requires t c κs = search needs
@@ -154,11 +154,11 @@ write-piece-part-write-parts-end t c = search needs
 
 write-piece-write-parts-requires : (t : ℕ) → write-piece-lts.Need-write-parts-requires (write-piece-calls t) (write-piece-at t) write-piece.Post
 write-piece-write-parts-requires t c κs =
-    (omega arith, (c .before .before .before .before .before .before .before .before .before .before .before .before .pre .1 .0, c .before .before .before .before .before .before .before .before .before .before .before .before .pre .1 .2, search needs, omega (arith, pieces-fit _ _ _ _ (c .before .before .before .before .before .before .before .before .before .if1 .left) (c .before .before .before .before .before .before .before .before .before .before .before .before .pre .1 .1) _ (c .before .before .before .before .before .before .before .before .read-row .ensures) _ (c .before .before .before .before .before .before .before .string-of .ensures) _ (c .before .before .before .before .before .before .before .before .before .before .before .before .pre .1 .3))))
+    (omega arith, (c .before .before .before .before .before .before .before .before .before .before .before .before .pre .1 .0, c .before .before .before .before .before .before .before .before .before .before .before .before .pre .1 .2, search needs, omega (arith, pieces-fit _ _ _ _ (c .before .before .before .before .before .before .before .before .before .if1 .left) (c .before .before .before .before .before .before .before .before .before .before .before .before .pre .1 .1) _ (c .before .before .before .before .before .before .before .before .read-row .ensures) _ (c .before .before .before .before .before .before .before .string-of .ensures .0) _ (c .before .before .before .before .before .before .before .before .before .before .before .before .pre .1 .3))))
 
 write-piece-add-to : (t : ℕ) → write-piece-lts.Need-add-to (write-piece-calls t) (write-piece-at t) write-piece.Post
 write-piece-add-to t c =
-    omega (arith, c .before .before .before .before .before .before .before .before .opening .ensures .end, c .before .before .write-parts .ensures .end, pieces-fit _ _ _ _ (c .before .before .before .before .before .before .before .before .before .before .before .before .if1 .left) (c .before .before .before .before .before .before .before .before .before .before .before .before .before .before .before .pre .1 .1) _ (c .before .before .before .before .before .before .before .before .before .before .before .read-row .ensures) _ (c .before .before .before .before .before .before .before .before .before .before .string-of .ensures) _ (c .before .before .before .before .before .before .before .before .before .before .before .before .before .before .before .pre .1 .3))
+    omega (arith, c .before .before .before .before .before .before .before .before .opening .ensures .end, c .before .before .write-parts .ensures .end, pieces-fit _ _ _ _ (c .before .before .before .before .before .before .before .before .before .before .before .before .if1 .left) (c .before .before .before .before .before .before .before .before .before .before .before .before .before .before .before .pre .1 .1) _ (c .before .before .before .before .before .before .before .before .before .before .before .read-row .ensures) _ (c .before .before .before .before .before .before .before .before .before .before .string-of .ensures .0) _ (c .before .before .before .before .before .before .before .before .before .before .before .before .before .before .before .pre .1 .3))
 
 write-piece-least-requires-2 : (t : ℕ) → write-piece-lts.Need-least-requires-2 (write-piece-calls t) (write-piece-at t) write-piece.Post
 write-piece-least-requires-2 t c κs = search needs
@@ -177,7 +177,7 @@ write-piece-closing-requires t c κs = search needs
 
 write-piece-add-result : (t : ℕ) → write-piece-lts.Need-add-result (write-piece-calls t) (write-piece-at t) write-piece.Post
 write-piece-add-result t c =
-    omega (arith, c .before .before .before .before .before .before .before .before .before .before .before .before .before .opening .ensures .end, c .before .before .before .before .before .before .before .write-parts .ensures .end, c .before .before .closing .ensures .end, pieces-fit _ _ _ _ (c .before .before .before .before .before .before .before .before .before .before .before .before .before .before .before .before .before .if1 .left) (c .before .before .before .before .before .before .before .before .before .before .before .before .before .before .before .before .before .before .before .before .pre .1 .1) _ (c .before .before .before .before .before .before .before .before .before .before .before .before .before .before .before .before .read-row .ensures) _ (c .before .before .before .before .before .before .before .before .before .before .before .before .before .before .before .string-of .ensures) _ (c .before .before .before .before .before .before .before .before .before .before .before .before .before .before .before .before .before .before .before .before .pre .1 .3))
+    omega (arith, c .before .before .before .before .before .before .before .before .before .before .before .before .before .opening .ensures .end, c .before .before .before .before .before .before .before .write-parts .ensures .end, c .before .before .closing .ensures .end, pieces-fit _ _ _ _ (c .before .before .before .before .before .before .before .before .before .before .before .before .before .before .before .before .before .if1 .left) (c .before .before .before .before .before .before .before .before .before .before .before .before .before .before .before .before .before .before .before .before .pre .1 .1) _ (c .before .before .before .before .before .before .before .before .before .before .before .before .before .before .before .before .read-row .ensures) _ (c .before .before .before .before .before .before .before .before .before .before .before .before .before .before .before .string-of .ensures .0) _ (c .before .before .before .before .before .before .before .before .before .before .before .before .before .before .before .before .before .before .before .before .pre .1 .3))
 
 write-piece-same-length : (t : ℕ) → write-piece-lts.Need-same-length (write-piece-calls t) (write-piece-at t) write-piece.Post
 write-piece-same-length t c = search needs
@@ -185,7 +185,7 @@ write-piece-same-length t c = search needs
 write-piece-returns-2 : (t : ℕ) → write-piece-lts.Need-returns-2 (write-piece-calls t) (write-piece-at t) write-piece.Post
 write-piece-returns-2 t c =
     wrote-eq (text-some _ _ _ _ (c .before .before .before .before .before .before .before .before .before .before .before .before .before .before .before .before .before .if1 .left) (c .before .before .before .before .before .before .before .before .before .before .before .before .before .before .before .before .before .before .before .before .pre .1 .1) _ (c .before .before .before .before .before .before .before .before .before .before .before .before .before .before .before .before .read-row .ensures))
-    (wrote-then (wrote-eq (opening-name _ _ _ _ (c .before .before .before .before .before .before .before .before .before .before .before .before .before .before .before .string-of .ensures)) (c .before .before .before .before .before .before .before .before .before .before .before .before .before .opening .ensures))
+    (wrote-then (wrote-eq (opening-name _ _ _ _ (c .before .before .before .before .before .before .before .before .before .before .before .before .before .before .before .string-of .ensures .0)) (c .before .before .before .before .before .before .before .before .before .before .before .before .before .opening .ensures))
     (wrote-then (wrote-lent _ _ _ _ _ _ (c .before .before .before .before .before .before .before .before .before .before .least .ensures) (c .before .before .before .before .before .before .before .write-parts .ensures)) (wrote-lent _ _ _ _ _ _ (c .before .before .before .before .least2 .ensures) (c .before .before .closing .ensures))))
 
 pub +write-parts+write-piece-spec : {M : Type 1} → statement M

@@ -13,7 +13,7 @@ name-at-requires : tie.Need-name-at-requires
 name-at-requires c κs = sym (c .before .well-formed .ensures) ∙ c .if1 .taken
 
 returns : tie.Need-returns
-returns c = full-name _ _ _ (sym (c .before .before .well-formed .ensures) ∙ c .before .if1 .taken) (c .name-at .ensures)
+returns c = full-name _ _ _ _ (sym (c .before .before .well-formed .ensures) ∙ c .before .if1 .taken) (c .name-at .ensures)
 
 sub-result : tie.Need-sub-result
 sub-result c = search needs
@@ -25,7 +25,7 @@ part-result-end : tie.Need-part-result-end
 part-result-end c = search needs
 
 returns-2 : tie.Need-returns-2
-returns-2 c = full-none _ _ _ (sym (c .before .before .well-formed .ensures) ∙ c .before .if1 .left)
+returns-2 c = full-none _ _ _ _ (sym (c .before .before .well-formed .ensures) ∙ c .before .if1 .left)
 
 pub full-name-spec : {M : Type 1} → statement M
 full-name-spec = tie.close (tie.spec well-formed-requires name-at-requires returns sub-result part-result-start part-result-end returns-2)

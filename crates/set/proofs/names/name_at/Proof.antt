@@ -2,7 +2,7 @@
 -- Assumes nothing.
 use mathlib.Core.Path.{sym, _∙_}
 use Rattle.set.proofs.Places.{is-long}
-use Rattle.set.proofs.NameLaws.{none-place, rows-asks, none-row, before-asks, row-asks, is-name, no-name}
+use Rattle.set.proofs.NameLaws.{none-place, rows-asks, none-row, before-asks, row-asks, is-name}
 use borrow.Author.Needs.{needs}
 use native.Mathlib.Omega.{arith}
 use Rattle.set.proofs.names.name_at.Statement.{statement}
@@ -21,7 +21,7 @@ part-result-end : tie.Need-part-result-end
 part-result-end c = search needs
 
 returns : tie.Need-returns
-returns c = none-place _ (c .before .before .before .before .pre) _ _ _ (c .before .before .declarations .ensures) (c .before .if1 .taken)
+returns c = none-place _ (c .before .before .before .before .pre) _ _ _ (c .before .before .declarations .ensures) _ (c .before .if1 .taken)
 
 rows-of-requires : tie.Need-rows-of-requires
 rows-of-requires c κs = rows-asks _ (c .before .before .before .pre) _ _ (c .before .declarations .ensures) (c .if1 .left)
@@ -37,42 +37,22 @@ part-result-end-2 c = search needs
 
 returns-2 : tie.Need-returns-2
 returns-2 c =
-    none-row _ (c .before .before .before .before .before .before .pre) _ _ _ (c .before .before .before .before .declarations .ensures) (c .before .before .before .if1 .left) _ (c .before .before .rows-of .ensures .0) (c .before .if2 .taken)
+    none-row _ (c .before .before .before .before .before .before .pre) _ _ _ (c .before .before .before .before .declarations .ensures) (c .before .before .before .if1 .left) _ (c .before .before .rows-of .ensures .0) _ (c .before .if2 .taken)
 
 rows-before-requires : tie.Need-rows-before-requires
 rows-before-requires c κs = before-asks _ (c .before .before .before .before .before .pre) _ _ (c .before .before .before .declarations .ensures) (c .before .before .if1 .left)
 
-add-i : tie.Need-add-i
-add-i c =
+add-name-of : tie.Need-add-name-of
+add-name-of c =
     omega (arith, row-asks _ (c .before .before .before .before .before .before .pre) _ _ _ (c .before .before .before .before .declarations .ensures) (c .before .before .before .if1 .left) _ (c .before .before .rows-of .ensures .0) (c .before .if2 .left) _ (c .rows-before .ensures) .1)
 
-kind-at-requires : tie.Need-kind-at-requires
-kind-at-requires c κs =
+name-of-requires : tie.Need-name-of-requires
+name-of-requires c κs =
     row-asks _ (c .before .before .before .before .before .before .pre) _ _ _ (c .before .before .before .before .declarations .ensures) (c .before .before .before .if1 .left) _ (c .before .before .rows-of .ensures .0) (c .before .if2 .left) _ (c .rows-before .ensures)
-
-has-full-name-requires : tie.Need-has-full-name-requires
-has-full-name-requires c κs = search needs
-
-string-of-requires : tie.Need-string-of-requires
-string-of-requires c κs =
-    row-asks _ (c .before .before .before .before .before .before .before .before .before .pre) _ _ _ (c .before .before .before .before .before .before .before .declarations .ensures) (c .before .before .before .before .before .before .if1 .left) _ (c .before .before .before .before .before .rows-of .ensures .0) (c .before .before .before .before .if2 .left) _ (c .before .before .before .rows-before .ensures)
 
 returns-3 : tie.Need-returns-3
 returns-3 c =
-    is-name _ (c .before .before .before .before .before .before .before .before .before .before .pre) _ _ _ (c .before .before .before .before .before .before .before .before .declarations .ensures) (c .before .before .before .before .before .before .before .if1 .left) _ (c .before .before .before .before .before .before .rows-of .ensures .0) (c .before .before .before .before .before .if2 .left) _ (c .before .before .before .before .rows-before .ensures) _ (c .before .before .before .kind-at .ensures) (sym (c .before .before .has-full-name .ensures) ∙ c .before .if3 .taken) (c .string-of .ensures)
-
-sub-result-3 : tie.Need-sub-result-3
-sub-result-3 c = search needs
-
-part-result-start-3 : tie.Need-part-result-start-3
-part-result-start-3 c = search needs
-
-part-result-end-3 : tie.Need-part-result-end-3
-part-result-end-3 c = search needs
-
-returns-4 : tie.Need-returns-4
-returns-4 c =
-    no-name _ (c .before .before .before .before .before .before .before .before .before .before .pre) _ _ _ (c .before .before .before .before .before .before .before .before .declarations .ensures) (c .before .before .before .before .before .before .before .if1 .left) _ (c .before .before .before .before .before .before .rows-of .ensures .0) (c .before .before .before .before .before .if2 .left) _ (c .before .before .before .before .rows-before .ensures) _ (c .before .before .before .kind-at .ensures) (sym (c .before .before .has-full-name .ensures) ∙ c .before .if3 .left)
+    is-name _ (c .before .before .before .before .before .before .before .pre) _ _ _ (c .before .before .before .before .before .declarations .ensures) (c .before .before .before .before .if1 .left) _ (c .before .before .before .rows-of .ensures .0) (c .before .before .if2 .left) _ (c .before .rows-before .ensures) _ (c .name-of .ensures)
 
 pub name-at-spec : {M : Type 1} → statement M
 name-at-spec =
@@ -89,12 +69,6 @@ name-at-spec =
     part-result-end-2
     returns-2
     rows-before-requires
-    add-i
-    kind-at-requires
-    has-full-name-requires
-    string-of-requires
-    returns-3
-    sub-result-3
-    part-result-start-3
-    part-result-end-3
-    returns-4)
+    add-name-of
+    name-of-requires
+    returns-3)

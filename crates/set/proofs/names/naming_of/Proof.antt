@@ -24,11 +24,11 @@ refused-name-requires-2 c κs = search needs
 
 returns-2 : tie.Need-returns-2
 returns-2 c =
-    naming-none _ _ _ (sym (c .before .before .before .before .well-formed .ensures) ∙ not-false _ (c .before .before .before .if1 .left)) _ (c .before .before .name-at .ensures) (c .before .if2 .taken) (c .refused-name2 .ensures)
+    naming-none _ _ _ (sym (c .before .before .before .before .well-formed .ensures) ∙ not-false _ (c .before .before .before .if1 .left)) _ (c .before .before .name-at .ensures .0) (c .before .if2 .taken) (c .refused-name2 .ensures)
 
 returns-3 : tie.Need-returns-3
 returns-3 c =
-    naming-done _ _ _ (sym (c .before .before .before .well-formed .ensures) ∙ not-false _ (c .before .before .if1 .left)) _ (c .before .name-at .ensures) (c .if2 .left)
+    naming-done _ _ _ (sym (c .before .before .before .well-formed .ensures) ∙ not-false _ (c .before .before .if1 .left)) _ (c .before .name-at .ensures .0) (c .if2 .left)
 
 pub naming-of-spec : {M : Type 1} → statement M
 naming-of-spec = tie.close (tie.spec well-formed-requires refused-name-requires returns name-at-requires refused-name-requires-2 returns-2 returns-3)
