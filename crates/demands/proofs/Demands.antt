@@ -1,38 +1,40 @@
 -- THE THREE DEMANDS on a set, over what its calls promise (crate `set`: specs/Calls and specs/Naming). The words are those of specs/Building.
+-- Answers stand here in 01's numbers, as in the promises (crate `answer`: specs/Answers): `.number` is 0 where a call is accepted, and then `.first`,
+-- `.second`, `.third` are the set's counts; else it is the refusal's, `.first` the declaration's place, `.second` the byte position.
 -- Assumes nothing.
 use mathlib.Core.Path.{_≡_, sym, _∙_}
 use mathlib.Core.Bool.{true}
 use mathlib.Core.List.{List, [], _∷_, _++_}
-use Prim.Native.Nat.{ℕ, _^_, _<_, _≤_}
+use Prim.Native.Nat.{ℕ, _+_, _^_, _<_, _≤_}
 use lib.ListN.{length, take}
 use Rattle.answer.specs.declared.counts.Counts.{Counts}
-use Rattle.answer.specs.declared.refusal.Why.the-variants.{NotAName, NoSuchPlace}
-use Rattle.answer.specs.declared.refusal.Refusal.{Refusal}
-use Rattle.answer.specs.declared.Answer.the-variants.{Done, Refused}
+use Rattle.answer.specs.declared.Answer.{Answer}
+use Rattle.answer.specs.Answers.{accepted, refused, ofCounts, numbersOf}
+use Rattle.answer.proofs.Laws.{numbers-one}
 use Rattle.decimals.specs.Limits.{largestNumber}
-use Rattle.row.specs.Layout.{layoutLength}
-use Rattle.row.specs.Rows.{Row}
-use Rattle.row.specs.Sets.{decode}
-use Rattle.row.specs.Memory.{setCounts}
+use Rattle.row.specs.Layout.{stringsStart, layoutLength}
+use Rattle.row.specs.Rows.{Row, texts}
+use Rattle.row.specs.Sets.{flat, decode}
+use Rattle.row.specs.Memory.{behind, setCounts}
 use Rattle.row.specs.declared.kind.Kind.the-variants.{Fixed}
 use Rattle.resolve.specs.WellFormed.{wellFormed}
 use Rattle.resolve.proofs.Laws.{exact}
 use Rattle.set.specs.Lists.{Result}
 use Rattle.set.specs.Calls.{answerOf, memoryOf, opened, added, replaced}
-use Rattle.set.specs.Naming.{hasFullName, fullNameIn, refusedName, namingOf}
+use Rattle.set.specs.Naming.{hasFullName, fullNameIn, fullNameStart, numbersOfNaming, namingOf}
 use Rattle.set.specs.declared.naming.Naming.{Naming}
-use Rattle.set.specs.declared.naming.Naming.the-variants as naming
-use Rattle.ground.specs.Bytes.{byteAt}
+use Rattle.set.proofs.Laws.{naming-one, full-part}
+use Rattle.ground.specs.Bytes.{byteAt, part}
 use Rattle.breach.specs.Breach.{BreaksAt}
 use Rattle.breach.proofs.Theorems.{breaks-there}
 use Rattle.told.specs.Told.{Rule, keepsOf, Told}
 use Rattle.told.proofs.Told.{lettered}
-use Rattle.demands.specs.Building.{Outcome, outcome, Allowed, emptySet, addEach, edit, Built, Joins, At, SameFront, Nameless, LaterBarred}
-use Rattle.demands.proofs.Holding.{refused-refuses, refused-leaves, added-kept, replaced-kept, replaced-formed, opened-formed, opened-empty, opened-length, held-formed, built-holds, held-answer, held-memory, held-nowhere, held-is, accepted-built}
+use Rattle.demands.specs.Building.{outcome, Allowed, emptySet, addEach, edit, Built, Joins, At, SameFront, Nameless, LaterBarred}
+use Rattle.demands.proofs.Holding.{refused-leaves, added-kept, replaced-kept, opened-formed, opened-empty, opened-length, held-formed, built-holds, held-answer, held-memory, held-nowhere, held-is, accepted-built}
 use Rattle.demands.proofs.Joined.{accepts-only, accepts-if}
-use Rattle.demands.proofs.Staying.{added-front, replaced-front, replace-later}
+use Rattle.demands.proofs.Staying.{added-front, replaced-front, replaced-later}
 use Rattle.demands.proofs.Letter.{put-tells, addition-tells}
-use Rattle.demands.proofs.Named.{full-formed, name-of, nameless-if, nameless-only, nameless-said, calls-agree, set-row}
+use Rattle.demands.proofs.Named.{full-formed, name-of, nameless-if, nameless-only, nameless-said, calls-agree, start-of, apart, set-row}
 use Rattle.demands.proofs.Fitting.{row-fits}
 
 -- ---- DEMAND 1: each public result is described fully, refusal or not, together with the lent bytes afterwards
@@ -41,27 +43,36 @@ use Rattle.demands.proofs.Fitting.{row-fits}
 pub one {ℓ} : {A : Type ℓ} {x y z : A} → x ≡ z → y ≡ z → x ≡ y
 one p q = p ∙ sym q
 
--- answer and memory together
-pub outcome-one : (m : List ℕ) (r : Result) (a b : Outcome) → Allowed m r a → Allowed m r b → a ≡ b
-outcome-one m r a b p q = λ i. record { answer = one (p .0) (q .0) i; memory = one (p .1) (q .1) i }
+-- an answer's numbers tell the answer: nothing is lost where promises and theorems speak of the numbers
+pub answer-told : (a b : Answer) → numbersOf a ≡ numbersOf b → a ≡ b
+answer-told = numbers-one
 
-pub open-one : (m : List ℕ) (a b : Outcome) → Allowed m (opened m) a → Allowed m (opened m) b → a ≡ b
+pub naming-told : (a b : Naming) → numbersOfNaming a ≡ numbersOfNaming b → a ≡ b
+naming-told = naming-one
+
+-- answer and memory together
+pub outcome-one : (m : List ℕ) (r : Result) (a b : Answer × List ℕ) → Allowed m r a → Allowed m r b → a ≡ b
+outcome-one m r a b p q = λ i. (answer-told (a .0) (b .0) (one (p .0) (q .0)) i, one (p .1) (q .1) i)
+
+pub open-one : (m : List ℕ) (a b : Answer × List ℕ) → Allowed m (opened m) a → Allowed m (opened m) b → a ≡ b
 open-one m = outcome-one m (opened m)
 
-pub add-one : (m text : List ℕ) (a b : Outcome) → Allowed m (added m text) a → Allowed m (added m text) b → a ≡ b
+pub add-one : (m text : List ℕ) (a b : Answer × List ℕ) → Allowed m (added m text) a → Allowed m (added m text) b → a ≡ b
 add-one m text = outcome-one m (added m text)
 
-pub replace-one : (m : List ℕ) (place : ℕ) (text : List ℕ) (a b : Outcome) → Allowed m (replaced m place text) a → Allowed m (replaced m place text) b → a ≡ b
+pub replace-one : (m : List ℕ) (place : ℕ) (text : List ℕ) (a b : Answer × List ℕ) → Allowed m (replaced m place text) a → Allowed m (replaced m place text) b → a ≡ b
 replace-one m place text = outcome-one m (replaced m place text)
 
-pub full-name-one : (m : List ℕ) (place i : ℕ) (a b : List ℕ) → a ≡ fullNameIn m place i → b ≡ fullNameIn m place i → a ≡ b
-full-name-one m place i a b = one
+-- a full name: its bytes, and the pointer to them, where memory's own is `first`
+pub full-name-one : (m : List ℕ) (first : ℕ × ℕ) (place i : ℕ) (a b : List ℕ × (ℕ × ℕ)) → (a .0 ≡ fullNameIn m place i) × (a .1 ≡ behind first (fullNameStart m place i))
+    → (b .0 ≡ fullNameIn m place i) × (b .1 ≡ behind first (fullNameStart m place i)) → a ≡ b
+full-name-one m first place i a b p q = λ k. (one (p .0) (q .0) k, one (p .1) (q .1) k)
 
-pub naming-one : (m : List ℕ) (place i : ℕ) (a b : Naming) → a ≡ namingOf m place i → b ≡ namingOf m place i → a ≡ b
-naming-one m place i a b = one
+pub naming-of-one : (m : List ℕ) (place i : ℕ) (a b : Naming) → numbersOfNaming a ≡ namingOf m place i → numbersOfNaming b ≡ namingOf m place i → a ≡ b
+naming-of-one m place i a b p q = naming-told a b (one p q)
 
 -- a refusal writes nothing
-pub refusal-writes-nothing : (m : List ℕ) (r : Result) (f : Refusal) → answerOf r ≡ Refused f → memoryOf m r ≡ m
+pub refusal-writes-nothing : (m : List ℕ) (r : Result) → (answerOf r .number ≡ 0 → ⊥) → memoryOf m r ≡ m
 refusal-writes-nothing = refused-leaves
 
 -- whatever is asked of it, a well-formed set stays one, and open makes one
@@ -78,13 +89,13 @@ replace-well-formed = replaced-kept
 
 module _ (m : List ℕ) (wf : wellFormed m ≡ true) (text : List ℕ) where
   -- only then: an accepted text joins, memory holds the set with its rows last, and the counts are that set's
-  pub add-accepts-only : (c : Counts) → answerOf (added m text) ≡ Done c
-      → (rows : List Row) × Joins (decode m) text rows × (decode (memoryOf m (added m text)) ≡ decode m ++ (rows ∷ [])) × (c ≡ setCounts (decode m ++ (rows ∷ [])))
+  pub add-accepts-only : answerOf (added m text) .number ≡ 0
+      → (rows : List Row) × Joins (decode m) text rows × (decode (memoryOf m (added m text)) ≡ decode m ++ (rows ∷ [])) × (answerOf (added m text) ≡ ofCounts (setCounts (decode m ++ (rows ∷ []))))
   add-accepts-only = accepts-only m wf text
 
   -- and always then: so a set that refuses all is ruled out
   pub add-accepts-if : (rows : List Row) → Joins (decode m) text rows
-      → (answerOf (added m text) ≡ Done (setCounts (decode m ++ (rows ∷ [])))) × (decode (memoryOf m (added m text)) ≡ decode m ++ (rows ∷ []))
+      → (answerOf (added m text) ≡ ofCounts (setCounts (decode m ++ (rows ∷ [])))) × (decode (memoryOf m (added m text)) ≡ decode m ++ (rows ∷ []))
   add-accepts-if = accepts-if m wf text
 
 -- ---- DEMAND 3: replacing a text of a set is adding the edited list of texts, one by one, to the empty set
@@ -95,30 +106,30 @@ module _ {m : List ℕ} {ts : List (List ℕ)} (built : Built m ts) (place : ℕ
   replace-answer = held-answer (built-holds built) place text
 
   -- where it is accepted, every byte of memory
-  pub replace-memory : (c : Counts) → place < length ts → answerOf (replaced m place text) ≡ Done c → memoryOf m (replaced m place text) ≡ addEach emptySet (edit ts place text) .memory
+  pub replace-memory : place < length ts → answerOf (replaced m place text) .number ≡ 0 → memoryOf m (replaced m place text) ≡ addEach emptySet (edit ts place text) .memory
   replace-memory = held-memory (built-holds built) place text
 
   -- where it is refused, memory is as it was
-  pub replace-leaves : (f : Refusal) → answerOf (replaced m place text) ≡ Refused f → memoryOf m (replaced m place text) ≡ m
+  pub replace-leaves : (answerOf (replaced m place text) .number ≡ 0 → ⊥) → memoryOf m (replaced m place text) ≡ m
   replace-leaves = refused-leaves m (replaced m place text)
 
   -- 21 where there is no such place
-  pub replace-nowhere : length ts ≤ place → answerOf (replaced m place text) ≡ Refused (record { why = NoSuchPlace; place = place; at = 0 })
+  pub replace-nowhere : length ts ≤ place → answerOf (replaced m place text) ≡ refused 21 place 0
   replace-nowhere = held-nowhere (built-holds built) place text
 
 -- the empty set is what open makes of any memory of the layout's length, and it accepts no other
 pub open-empties : (m : List ℕ) → length m ≡ layoutLength → outcome m (opened m) ≡ emptySet
 open-empties = opened-empty
 
-pub open-accepts-only : (m : List ℕ) (c : Counts) → answerOf (opened m) ≡ Done c → length m ≡ layoutLength
+pub open-accepts-only : (m : List ℕ) → answerOf (opened m) .number ≡ 0 → length m ≡ layoutLength
 open-accepts-only = opened-length
 
 -- memory that calls built from texts is what adding those texts one by one gives, and each of them is accepted
-pub built-is : {m : List ℕ} {ts : List (List ℕ)} → Built m ts → (c : Counts) × (addEach emptySet ts ≡ record { answer = Done c; memory = m })
+pub built-is : {m : List ℕ} {ts : List (List ℕ)} → Built m ts → (c : Counts) × (addEach emptySet ts ≡ record { answer = ofCounts c; memory = m })
 built-is b = held-is (built-holds b)
 
 -- and what adding texts one by one gives, if each is accepted, is memory that calls built from them
-pub accepted-is-built : (ts : List (List ℕ)) (c : Counts) → addEach emptySet ts .answer ≡ Done c → Built (addEach emptySet ts .memory) ts
+pub accepted-is-built : (ts : List (List ℕ)) → addEach emptySet ts .answer .number ≡ 0 → Built (addEach emptySet ts .memory) ts
 accepted-is-built = accepted-built
 
 pub built-well-formed : {m : List ℕ} {ts : List (List ℕ)} → Built m ts → wellFormed m ≡ true
@@ -126,25 +137,27 @@ built-well-formed b = held-formed (built-holds b)
 
 -- ---- NOT MOVED: no row or string before the place moves
 
-module _ (m : List ℕ) (wf : wellFormed m ≡ true) (c : Counts) where
-  pub replace-moves-nothing : (place : ℕ) (text : List ℕ) → answerOf (replaced m place text) ≡ Done c → SameFront (take place (decode m)) (memoryOf m (replaced m place text)) m
-  replace-moves-nothing = replaced-front m wf c
+module _ (m : List ℕ) (wf : wellFormed m ≡ true) where
+  pub replace-moves-nothing : (place : ℕ) (text : List ℕ) → answerOf (replaced m place text) .number ≡ 0 → SameFront (take place (decode m)) (memoryOf m (replaced m place text)) m
+  replace-moves-nothing = replaced-front m wf
 
-  pub add-moves-nothing : (text : List ℕ) → answerOf (added m text) ≡ Done c → SameFront (decode m) (memoryOf m (added m text)) m
-  add-moves-nothing = added-front m wf c
+  pub add-moves-nothing : (text : List ℕ) → answerOf (added m text) .number ≡ 0 → SameFront (decode m) (memoryOf m (added m text)) m
+  add-moves-nothing = added-front m wf
 
 -- ---- THE POSITION: where a later declaration breaks, it is reported by its place, with the byte position its rows recorded; 23 and 24 at 0
 
-pub later-position : (m : List ℕ) → wellFormed m ≡ true → (place : ℕ) (text : List ℕ) (r : Refusal) → answerOf (replaced m place text) ≡ Refused r → place < r .place → LaterBarred (decode m) place text r
-later-position m wf place text r e l = replace-later (decode m) place text r l (sym (replaced-formed m wf place text) ∙ refused-refuses (replaced m place text) r e)
+pub later-position : (m : List ℕ) → wellFormed m ≡ true → (place : ℕ) (text : List ℕ) → (answerOf (replaced m place text) .number ≡ 0 → ⊥) → place < answerOf (replaced m place text) .first
+    → LaterBarred (decode m) place text (answerOf (replaced m place text))
+later-position = replaced-later
 
 -- ---- THE LETTER: 7 is a fault of the text that is handed in, and it stands where a string of that text breaks its rule for names: at the first
 -- character such that no string that keeps the rule begins with the characters up to and with it, or at the closing quote (`Told`, `BreaksAt`)
 
-pub add-tells : (m text : List ℕ) (r : Refusal) → answerOf (added m text) ≡ Refused r → r .why ≡ NotAName → (r .place ≡ length (decode m)) × Told text (r .at)
+pub add-tells : (m text : List ℕ) → answerOf (added m text) .number ≡ 7 → (answerOf (added m text) .first ≡ length (decode m)) × Told text (answerOf (added m text) .second)
 add-tells = addition-tells
 
-pub replace-tells : (m : List ℕ) (place : ℕ) (text : List ℕ) (r : Refusal) → answerOf (replaced m place text) ≡ Refused r → r .why ≡ NotAName → (r .place ≡ place) × Told text (r .at)
+pub replace-tells : (m : List ℕ) (place : ℕ) (text : List ℕ) → answerOf (replaced m place text) .number ≡ 7
+    → (answerOf (replaced m place text) .first ≡ place) × Told text (answerOf (replaced m place text) .second)
 replace-tells m place text = put-tells text place m
 
 -- there is one such place for a string
@@ -163,6 +176,11 @@ module _ (m : List ℕ) (wf : wellFormed m ≡ true) (place i : ℕ) where
   pub full-name-is : {rows : List Row} {r : Row} → At (decode m) place rows → At rows i r → hasFullName (r .kind) ≡ true → fullNameIn m place i ≡ r .text
   full-name-is a b h = full-formed m place i wf ∙ name-of a b h
 
+  -- it lies in the set's memory where the row says: in the string area, behind the strings of all rows before it
+  pub full-name-lies : {rows : List Row} {r : Row} → At (decode m) place rows → At rows i r → hasFullName (r .kind) ≡ true
+      → fullNameStart m place i ≡ stringsStart + length (texts (flat (take place (decode m)) ++ take i rows))
+  full-name-lies = start-of m place i wf
+
   -- no bytes exactly if there is no such place, no such row there, or it has no full name
   pub empty-only : fullNameIn m place i ≡ [] → Nameless (decode m) place i
   empty-only e = nameless-only (decode m) (exact m wf .1 .declarations) place i (sym (full-formed m place i wf) ∙ e)
@@ -171,16 +189,24 @@ module _ (m : List ℕ) (wf : wellFormed m ≡ true) (place i : ℕ) where
   empty-if h = full-formed m place i wf ∙ nameless-if h
 
   -- then the second call says 21, with the place that was asked for
-  pub naming-refuses : Nameless (decode m) place i → namingOf m place i ≡ refusedName NoSuchPlace place
+  pub naming-refuses : Nameless (decode m) place i → namingOf m place i ≡ refused 21 place 0
   naming-refuses = nameless-said m place i wf
 
 -- on any memory: full_name answers no bytes exactly where naming refuses, and naming answers its length otherwise
 module _ (m : List ℕ) (place i : ℕ) where
-  pub refused-where-empty : fullNameIn m place i ≡ [] → (f : Refusal) × (namingOf m place i ≡ naming.Refused f)
+  pub refused-where-empty : fullNameIn m place i ≡ [] → namingOf m place i .number ≡ 0 → ⊥
   refused-where-empty = calls-agree m place i .none
 
-  pub empty-where-refused : (f : Refusal) → namingOf m place i ≡ naming.Refused f → fullNameIn m place i ≡ []
-  empty-where-refused = calls-agree m place i .refused
+  pub empty-where-refused : (namingOf m place i .number ≡ 0 → ⊥) → fullNameIn m place i ≡ []
+  empty-where-refused = calls-agree m place i .refusal
 
-  pub named-by-length : (n : ℕ) → namingOf m place i ≡ naming.Named n → (n ≡ length (fullNameIn m place i)) × (1 ≤ n)
+  pub named-by-length : namingOf m place i .number ≡ 0 → (namingOf m place i ≡ accepted (length (fullNameIn m place i)) 0 0) × (1 ≤ length (fullNameIn m place i))
   named-by-length = calls-agree m place i .named
+
+  -- its place and its length are those of a part of memory that has its bytes
+  pub full-name-part : part m (fullNameStart m place i) (length (fullNameIn m place i)) ≡ fullNameIn m place i
+  full-name-part = full-part m place i
+
+-- and no two rows have theirs at one place: an equal string of another row is not the answer
+pub names-apart : (m : List ℕ) (p i q j : ℕ) → (fullNameIn m p i ≡ [] → ⊥) → (fullNameIn m q j ≡ [] → ⊥) → fullNameStart m p i ≡ fullNameStart m q j → (p ≡ q) × (i ≡ j)
+names-apart = apart

@@ -1,19 +1,21 @@
 -- Memory that calls built: what it holds, and what the calls do to it.
 -- Assumes nothing.
 use mathlib.Core.Path.{_≡_, refl, sym, ap, _∙_}
-use mathlib.Core.Bool.{true}
+use mathlib.Core.Bool.{true, false}
 use mathlib.Core.List.{List, [], _∷_, _++_, append-assoc, append-nil}
 use Prim.Native.Nat.{ℕ, _<_, _≤_}
 use native.Mathlib.Omega.{arith}
 use native.Mathlib.Decide.{decLt}
 use lib.Dec.{eqb}
 use lib.ListN.{length, length-replicate}
-use borrow.Author.Tests.{le-ltb, eq-eqb, eqb-true}
+use borrow.Author.Tests.{le-ltb, eq-eqb, ne-eqb, eqb-true}
 use Rattle.answer.specs.Limits.{noCounts}
 use Rattle.answer.specs.declared.counts.Counts.{Counts}
 use Rattle.answer.specs.declared.refusal.Why.the-variants.{NoSuchPlace}
 use Rattle.answer.specs.declared.refusal.Refusal.{Refusal}
-use Rattle.answer.specs.declared.Answer.the-variants.{Done, Refused}
+use Rattle.answer.specs.Numbers.{numberOf}
+use Rattle.answer.specs.Answers.{ofCounts, ofRefusal, refused}
+use Rattle.answer.proofs.Laws.{never-zero}
 use Rattle.row.specs.Layout.{layoutLength}
 use Rattle.row.specs.Rows.{Row, texts}
 use Rattle.row.specs.Sets.{flat, zeros, encode, decode}
@@ -23,25 +25,29 @@ use Rattle.resolve.specs.WellFormed.{Good, wellFormed}
 use Rattle.resolve.proofs.Laws.{exact, encode-good, good-within, none-good}
 use Rattle.set.specs.Lists.{Result, becomes, refuses, refuse, next, addTo, replaceIn}
 use Rattle.set.specs.Calls.{answerOf, memoryOf, onSet, opened, added, replaced}
-use Rattle.demands.specs.Building.{Outcome, outcome, emptySet, addEach, edit, ifDone, Built, opens, adds, replaces}
+use Rattle.demands.specs.Building.{Outcome, outcome, isDone, emptySet, addEach, edit, ifDone, Built, opens, adds, replaces}
 use Rattle.demands.proofs.Steps.{becomes-inj, not-both, must-hold, add-good, replace-good}
 use Rattle.demands.proofs.Editing.{addAll, run-append, run-one, run-done, run-good, reads-length, edit-law}
 
 -- ---- what an answer tells
 
-pub done-becomes : (x : Result) (c : Counts) → answerOf x ≡ Done c → (d : List (List Row)) × (x ≡ becomes d) × (c ≡ setCounts d)
-unfolding answerOf
-done-becomes (becomes d) c e = (d, refl, cc)
-done-becomes (refuses r) c e = let z : _≡_ {A = ℕ} 0 1 = cc in absurd (omega arith)
+-- no refusal has the number 0
+pub not-done : (r : Refusal) → isDone (ofRefusal r) ≡ false
+not-done r = ne-eqb (numberOf (r .why)) 0 (never-zero (r .why))
 
-pub refused-refuses : (x : Result) (f : Refusal) → answerOf x ≡ Refused f → x ≡ refuses f
+pub done-becomes : (x : Result) → answerOf x .number ≡ 0 → (d : List (List Row)) × (x ≡ becomes d)
 unfolding answerOf
-refused-refuses (becomes d) f e = let z : _≡_ {A = ℕ} 0 1 = cc in absurd (omega arith)
-refused-refuses (refuses r) f e = cc
+done-becomes (becomes d) e = (d, refl)
+done-becomes (refuses r) e = absurd (never-zero (r .why) e)
 
-pub refused-leaves : (m : List ℕ) (x : Result) (f : Refusal) → answerOf x ≡ Refused f → memoryOf m x ≡ m
+pub refused-refuses : (x : Result) → (answerOf x .number ≡ 0 → ⊥) → (f : Refusal) × (x ≡ refuses f)
+unfolding answerOf
+refused-refuses (becomes d) e = absurd (e refl)
+refused-refuses (refuses r) e = (r, refl)
+
+pub refused-leaves : (m : List ℕ) (x : Result) → (answerOf x .number ≡ 0 → ⊥) → memoryOf m x ≡ m
 unfolding memoryOf
-refused-leaves m x f e = ap (memoryOf m) (refused-refuses x f e)
+refused-leaves m x e = ap (memoryOf m) (refused-refuses x e .1)
 
 -- ---- calls on well-formed memory
 
@@ -80,9 +86,9 @@ pub opened-formed : (m : List ℕ) → length m ≡ layoutLength → wellFormed 
 unfolding memoryOf
 opened-formed m e = ap (λ (x : Result). wellFormed (memoryOf m x)) (opened-is m e) ∙ encode-good [] none-good
 
-pub opened-length : (m : List ℕ) (c : Counts) → answerOf (opened m) ≡ Done c → length m ≡ layoutLength
+pub opened-length : (m : List ℕ) → answerOf (opened m) .number ≡ 0 → length m ≡ layoutLength
 unfolding opened
-opened-length m c e = let d = done-becomes (opened m) c e in eqb-true _ _ (must-hold (eqb (length m) layoutLength) _ _ (d .0) (d .1) .0)
+opened-length m e = let d = done-becomes (opened m) e in eqb-true _ _ (must-hold (eqb (length m) layoutLength) _ _ (d .0) (d .1) .0)
 
 pub none-counts : setCounts [] ≡ noCounts
 unfolding setCounts flat texts
@@ -90,7 +96,7 @@ none-counts = refl
 
 pub empty-outcome : (m : List ℕ) → outcome m (becomes []) ≡ emptySet
 unfolding outcome emptySet answerOf memoryOf
-empty-outcome m = ap (λ (c : Counts). record { answer = Done c; memory = encode [] }) none-counts
+empty-outcome m = ap (λ (c : Counts). record { answer = ofCounts c; memory = encode [] }) none-counts
 
 pub opened-empty : (m : List ℕ) → length m ≡ layoutLength → outcome m (opened m) ≡ emptySet
 opened-empty m e = ap (outcome m) (opened-is m e) ∙ empty-outcome m
@@ -146,7 +152,7 @@ module _ {m : List ℕ} {ts : List (List ℕ)} (h : Holds m ts) where
   held-after : (x : Result) (us : List (List ℕ)) → ((d : List (List Row)) → x ≡ becomes d → addAll [] us ≡ becomes d) → Holds (memoryOf m x) (ifDone (answerOf x) us ts)
   unfolding memoryOf answerOf ifDone
   held-after (becomes d) us f = record { set = d; bytes = refl; run = f d refl }
-  held-after (refuses r) us f = h
+  held-after (refuses r) us f = rw (not-done r) h
 
   pub after-add : (t : List ℕ) → Holds (memoryOf m (added m t)) (ifDone (answerOf (added m t)) (ts ++ (t ∷ [])) ts)
   after-add t = held-after (added m t) (ts ++ (t ∷ [])) (λ d e. sym (held-added t) ∙ e)
@@ -173,7 +179,7 @@ each-added [] m (refuses r) g = record { answer = refl; memory = λ d e. not-bot
 each-added (t ∷ ts) m (becomes d) g =
     let a : added (encode d) t ≡ addTo d t = added-encoded d (g d refl) t in
     rw a (each-added ts (encode d) (addTo d t) (λ y e. add-good d t y (g d refl) e))
-each-added (t ∷ ts) m (refuses r) g = record { answer = refl; memory = λ d e. not-both (sym e) }
+each-added (t ∷ ts) m (refuses r) g = rw (not-done r) (record { answer = refl; memory = λ d e. not-both (sym e) })
 
 each-run : (ts : List (List ℕ)) → Each (addAll [] ts) (addEach emptySet ts)
 each-run ts = rw (← empty-outcome []) (each-added ts [] (becomes []) (λ d e. rw (← becomes-inj e) none-good))
@@ -184,47 +190,47 @@ module _ {m : List ℕ} {ts : List (List ℕ)} (h : Holds m ts) where
   pub held-answer : (place : ℕ) (t : List ℕ) → place < length ts → answerOf (replaced m place t) ≡ addEach emptySet (edit ts place t) .answer
   held-answer place t l = ap answerOf (held-edited h place t l) ∙ each-run (edit ts place t) .answer
 
-  pub held-memory : (place : ℕ) (t : List ℕ) (c : Counts) → place < length ts → answerOf (replaced m place t) ≡ Done c → memoryOf m (replaced m place t) ≡ addEach emptySet (edit ts place t) .memory
+  pub held-memory : (place : ℕ) (t : List ℕ) → place < length ts → answerOf (replaced m place t) .number ≡ 0 → memoryOf m (replaced m place t) ≡ addEach emptySet (edit ts place t) .memory
   unfolding memoryOf
-  held-memory place t c l e =
-      let d = done-becomes (replaced m place t) c e in
+  held-memory place t l e =
+      let d = done-becomes (replaced m place t) e in
       ap (memoryOf m) (d .1) ∙ each-run (edit ts place t) .memory (d .0) (sym (held-edited h place t l) ∙ d .1)
 
-  pub held-nowhere : (place : ℕ) (t : List ℕ) → length ts ≤ place → answerOf (replaced m place t) ≡ Refused (record { why = NoSuchPlace; place = place; at = 0 })
+  pub held-nowhere : (place : ℕ) (t : List ℕ) → length ts ≤ place → answerOf (replaced m place t) ≡ refused 21 place 0
   unfolding answerOf
   held-nowhere place t l = ap answerOf (held-none h place t l)
 
   -- the set is what adding its texts gives
-  pub held-is : (c : Counts) × (addEach emptySet ts ≡ record { answer = Done c; memory = m })
+  pub held-is : (c : Counts) × (addEach emptySet ts ≡ record { answer = ofCounts c; memory = m })
   unfolding answerOf
   held-is =
       let z = each-run ts in
-      let a : addEach emptySet ts .answer ≡ Done (setCounts (h .set)) = sym (z .answer) ∙ ap answerOf (h .run) in
+      let a : addEach emptySet ts .answer ≡ ofCounts (setCounts (h .set)) = sym (z .answer) ∙ ap answerOf (h .run) in
       let b : addEach emptySet ts .memory ≡ m = sym (z .memory (h .set) (h .run)) ∙ sym (h .bytes) in
       (setCounts (h .set), λ i. record { answer = a i; memory = b i })
 
 -- ---- what adding texts one by one gives is built
 
-no-done : {A : Type 0} (ts : List (List ℕ)) (m : List ℕ) (f : Refusal) (c : Counts) → addEach (outcome m (refuses f)) ts .answer ≡ Done c → A
+no-done : {A : Type 0} (ts : List (List ℕ)) (m : List ℕ) (f : Refusal) → addEach (outcome m (refuses f)) ts .answer .number ≡ 0 → A
 unfolding addEach outcome answerOf
-no-done [] m f c e = let z : _≡_ {A = ℕ} 0 1 = cc in absurd (omega arith)
-no-done (t ∷ ts) m f c e = let z : _≡_ {A = ℕ} 0 1 = cc in absurd (omega arith)
+no-done [] m f e = absurd (never-zero (f .why) e)
+no-done (t ∷ ts) m f e = absurd (never-zero (f .why) (rw (not-done f) at e))
 
-one-more : (m : List ℕ) (x : Result) (ts us : List (List ℕ)) (t : List ℕ) (c : Counts) → Built (memoryOf m x) (ifDone (answerOf x) (us ++ (t ∷ [])) us) → addEach (outcome m x) ts .answer ≡ Done c
+one-more : (m : List ℕ) (x : Result) (ts us : List (List ℕ)) (t : List ℕ) → Built (memoryOf m x) (ifDone (answerOf x) (us ++ (t ∷ [])) us) → addEach (outcome m x) ts .answer .number ≡ 0
     → ((vs : List (List ℕ)) → Built (memoryOf m x) vs → Built (addEach (outcome m x) ts .memory) (vs ++ ts)) → Built (addEach (outcome m x) ts .memory) (us ++ (t ∷ ts))
 unfolding ifDone answerOf
-one-more m (becomes d) ts us t c b e more = rw (← append-assoc us (t ∷ []) ts) (more (us ++ (t ∷ [])) b)
-one-more m (refuses f) ts us t c b e more = no-done ts m f c e
+one-more m (becomes d) ts us t b e more = rw (← append-assoc us (t ∷ []) ts) (more (us ++ (t ∷ [])) b)
+one-more m (refuses f) ts us t b e more = no-done ts m f e
 
-each-built : (ts us : List (List ℕ)) (m : List ℕ) (x : Result) (c : Counts) → Built (memoryOf m x) us → addEach (outcome m x) ts .answer ≡ Done c → Built (addEach (outcome m x) ts .memory) (us ++ ts)
+each-built : (ts us : List (List ℕ)) (m : List ℕ) (x : Result) → Built (memoryOf m x) us → addEach (outcome m x) ts .answer .number ≡ 0 → Built (addEach (outcome m x) ts .memory) (us ++ ts)
 unfolding addEach outcome answerOf memoryOf
-each-built [] us m x c b e = rw (append-nil us) b
-each-built (t ∷ ts) us m (becomes d) c b e = one-more (encode d) (added (encode d) t) ts us t c (adds b t) e (λ vs n. each-built ts vs (encode d) (added (encode d) t) c n e)
-each-built (t ∷ ts) us m (refuses f) c b e = let z : _≡_ {A = ℕ} 0 1 = cc in absurd (omega arith)
+each-built [] us m x b e = rw (append-nil us) b
+each-built (t ∷ ts) us m (becomes d) b e = one-more (encode d) (added (encode d) t) ts us t (adds b t) e (λ vs n. each-built ts vs (encode d) (added (encode d) t) n e)
+each-built (t ∷ ts) us m (refuses f) b e = no-done (t ∷ ts) m f e
 
-pub accepted-built : (ts : List (List ℕ)) (c : Counts) → addEach emptySet ts .answer ≡ Done c → Built (addEach emptySet ts .memory) ts
+pub accepted-built : (ts : List (List ℕ)) → addEach emptySet ts .answer .number ≡ 0 → Built (addEach emptySet ts .memory) ts
 unfolding memoryOf
-accepted-built ts c e = rw (← o) (each-built ts [] m (becomes []) c (rw (opened-is m n) at (opens m n)) (rw (← o) at e))
+accepted-built ts e = rw (← o) (each-built ts [] m (becomes []) (rw (opened-is m n) at (opens m n)) (rw (← o) at e))
   where
     m : List ℕ
     m = zeros layoutLength

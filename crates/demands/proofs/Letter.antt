@@ -1,16 +1,17 @@
 -- A refusal by 7 is one of the text that is added or put, and tells where a string of it breaks its rule: what the set already has is not asked again.
 -- Assumes nothing.
-use mathlib.Core.Path.{_≡_, refl, subst}
+use mathlib.Core.Path.{_≡_, refl}
 use mathlib.Core.Bool.{Bool, true, false, not, cond, _&&_}
 use mathlib.Core.List.{List, [], _∷_, _++_}
 use Prim.Native.Nat.{ℕ, _+_}
+use native.Mathlib.Omega.{arith}
 use lib.Dec.{eqb, ltb}
 use lib.ListN.{length, take, drop}
-use Rattle.answer.specs.declared.Answer.the-variants.{Refused}
 use Rattle.answer.specs.declared.refusal.Why.{Why}
 use Rattle.answer.specs.declared.refusal.Why.the-variants.{NotAName, NotWellFormed, NoSuchPlace, TooManyDeclarations, TooManyRows, TooManyStringBytes, DefinedAlready, ReferenceUnknown}
 use Rattle.answer.specs.declared.refusal.Refusal.{Refusal}
 use Rattle.answer.specs.Numbers.{numberOf}
+use Rattle.answer.proofs.Laws.{one-case}
 use Rattle.row.specs.Layout.{declarationLimit, rowLimit, stringLimit}
 use Rattle.row.specs.Rows.{Row, texts}
 use Rattle.row.specs.Sets.{flat, decode}
@@ -26,7 +27,6 @@ use Rattle.set.specs.Lists.{Result, becomes, refuses, refuse, next, onRows, onR
 use Rattle.set.specs.Calls.{answerOf, onSet, added, replaced}
 use Rattle.told.specs.Told.{Told}
 use Rattle.told.proofs.Told.{told, not-seven}
-use Rattle.demands.proofs.Holding.{refused-refuses}
 
 -- 25 and 26 are not 7
 abbrev Other : Resolution → Type 0
@@ -103,12 +103,14 @@ module _ (text : List ℕ) (place : ℕ) where
       (rows-fair (λ rows. appendAll (take place ds) (rows ∷ drop (place + 1) ds)) (λ rows. all-fair (rows ∷ drop (place + 1) ds) (take place ds)))
       (other NoSuchPlace place 0 refl)
 
-  refusal-fair : (x : Result) (r : Refusal) → Fair x → answerOf x ≡ Refused r → r .why ≡ NotAName → (r .place ≡ place) × Told text (r .at)
-  refusal-fair x r g e = subst Fair (refused-refuses x r e) g
+  refusal-fair : (x : Result) → Fair x → answerOf x .number ≡ 7 → (answerOf x .first ≡ place) × Told text (answerOf x .second)
+  unfolding answerOf
+  refusal-fair (becomes ds) g e = absurd (omega arith)
+  refusal-fair (refuses r) g e = g (one-case (r .why) NotAName e)
 
-  pub put-tells : (m : List ℕ) (r : Refusal) → answerOf (replaced m place text) ≡ Refused r → r .why ≡ NotAName → (r .place ≡ place) × Told text (r .at)
+  pub put-tells : (m : List ℕ) → answerOf (replaced m place text) .number ≡ 7 → (answerOf (replaced m place text) .first ≡ place) × Told text (answerOf (replaced m place text) .second)
   unfolding replaced
-  put-tells m r e = refusal-fair (replaced m place text) r (on-set m place (λ ds. replaceIn ds place text) (replace-fair (decode m))) e
+  put-tells m e = refusal-fair (replaced m place text) (on-set m place (λ ds. replaceIn ds place text) (replace-fair (decode m))) e
 
 add-fair : (text : List ℕ) (ds : List (List Row)) → Fair text (length ds) (addTo ds text)
 unfolding addTo
@@ -116,7 +118,7 @@ add-fair text ds =
     cond-fair text (length ds) (ltb (length ds) declarationLimit) _ _ (rows-fair text (length ds) (append ds) (append-fair text (length ds) ds))
     (other text (length ds) TooManyDeclarations declarationLimit 0 refl)
 
-pub addition-tells : (m text : List ℕ) (r : Refusal) → answerOf (added m text) ≡ Refused r → r .why ≡ NotAName → (r .place ≡ length (decode m)) × Told text (r .at)
+pub addition-tells : (m text : List ℕ) → answerOf (added m text) .number ≡ 7 → (answerOf (added m text) .first ≡ length (decode m)) × Told text (answerOf (added m text) .second)
 unfolding added
-addition-tells m text r e =
-    refusal-fair text (length (decode m)) (added m text) r (on-set text (length (decode m)) m 0 (λ ds. addTo ds text) (add-fair text (decode m))) e
+addition-tells m text e =
+    refusal-fair text (length (decode m)) (added m text) (on-set text (length (decode m)) m 0 (λ ds. addTo ds text) (add-fair text (decode m))) e

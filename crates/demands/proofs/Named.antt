@@ -2,28 +2,28 @@
 -- Assumes nothing.
 use mathlib.Core.Path.{_≡_, refl, sym, ap, _∙_}
 use mathlib.Core.Bool.{Bool, true, false, not, cond, _&&_, _||_}
-use mathlib.Core.List.{List, [], _∷_}
-use Prim.Native.Nat.{ℕ, zero, suc, _≤_}
+use mathlib.Core.List.{List, [], _∷_, _++_, append-assoc}
+use Prim.Native.Nat.{ℕ, zero, suc, _+_, _<_, _≤_}
+use native.Mathlib.Nat.{add-zero}
 use native.Mathlib.Omega.{arith}
-use lib.ListN.{length}
-use Rattle.answer.specs.declared.refusal.Why.{Why}
-use Rattle.answer.specs.declared.refusal.Why.the-variants.{NotWellFormed, NoSuchPlace}
-use Rattle.answer.specs.declared.refusal.Refusal.{Refusal}
+use lib.ListN.{length, take, length-append}
+use Rattle.answer.specs.declared.numbers.Numbers.{Numbers}
+use Rattle.answer.specs.Answers.{accepted, refused}
 use Rattle.ground.proofs.Laws.{never, and-true}
 use Rattle.name.specs.Name.{every, isEmpty, isDotted, isReserved}
 use Rattle.name.specs.Full.{isShort}
 use Rattle.name.proofs.Laws.{dotted-some}
-use Rattle.row.specs.Rows.{Row}
-use Rattle.row.specs.Sets.{decode}
+use Rattle.row.specs.Layout.{stringsStart}
+use Rattle.row.specs.Rows.{Row, texts}
+use Rattle.row.specs.Sets.{flat, decode}
+use Rattle.row.proofs.RowLaws.{texts-append}
 use Rattle.row.specs.declared.kind.Kind.{Kind}
 use Rattle.row.specs.declared.kind.Kind.the-variants.{Reference, Field, Symbol, Alias, FieldAlias}
 use Rattle.resolve.specs.Kinds.{isKind, isDefinition, isNamed}
 use Rattle.resolve.specs.Rules.{isFullName, isOwnName, goodText, goodNumbers, goodParts, noClash, goodRow, goodRows, isDeclaration}
 use Rattle.resolve.specs.WellFormed.{wellFormed}
 use Rattle.kept.proofs.Good.{declaration-first}
-use Rattle.set.specs.Naming.{hasFullName, nameAmong, nameIn, fullNameIn, refusedName, namingOf}
-use Rattle.set.specs.declared.naming.Naming.{Naming}
-use Rattle.set.specs.declared.naming.Naming.the-variants.{Named, Refused}
+use Rattle.set.specs.Naming.{hasFullName, nameAmong, nameIn, fullNameIn, startAmong, startIn, fullNameStart, namingOf}
 use Rattle.demands.specs.Building.{At, first, behind, Nameless, no-place, no-row, no-name}
 
 -- ---- a full name has a byte
@@ -142,31 +142,108 @@ unfolding fullNameIn
 full-formed m place i wf = rw wf
 
 -- the two calls agree
-pub record Agree (name : List ℕ) (said : Naming) : Type 0 where
-  pub none : name ≡ [] → (f : Refusal) × (said ≡ Refused f)
-  pub refused : (f : Refusal) → said ≡ Refused f → name ≡ []
-  pub named : (n : ℕ) → said ≡ Named n → (n ≡ length name) × (1 ≤ n)
+pub record Agree (name : List ℕ) (said : Numbers) : Type 0 where
+  pub none : name ≡ [] → said .number ≡ 0 → ⊥
+  pub refusal : (said .number ≡ 0 → ⊥) → name ≡ []
+  pub named : said .number ≡ 0 → (said ≡ accepted (length name) 0 0) × (1 ≤ length name)
 
-agree-refused : (f : Refusal) → Agree [] (Refused f)
-agree-refused f = record { none = λ e. (f, refl); refused = λ g e. refl; named = λ n e. (let z : _≡_ {A = ℕ} 0 1 = cc in absurd (omega arith)) }
+agree-refused : (k place : ℕ) → Agree [] (refused (suc k) place 0)
+agree-refused k place = record { none = λ e f. omega arith; refusal = λ e. refl; named = λ e. absurd (omega arith) }
 
-agree-name : (why : Why) (place : ℕ) (name : List ℕ) → Agree name (cond (isEmpty name) (refusedName why place) (Named (length name)))
+agree-name : (k place : ℕ) (name : List ℕ) → Agree name (cond (isEmpty name) (refused (suc k) place 0) (accepted (length name) 0 0))
 unfolding isEmpty
-agree-name why place [] = agree-refused _
-agree-name why place (b ∷ name) = record {
+agree-name k place [] = agree-refused k place
+agree-name k place (b ∷ name) = record {
   none = λ e. (let z : _≡_ {A = ℕ} 0 1 = cc in absurd (omega arith));
-  refused = λ f e. (let z : _≡_ {A = ℕ} 0 1 = cc in absurd (omega arith));
-  named = λ n e. (let z : length (b ∷ name) ≡ n = cc in (sym z, omega arith));
+  refusal = λ e. absurd (e refl);
+  named = λ e. (refl, omega arith);
 }
 
 pub calls-agree : (m : List ℕ) (place i : ℕ) → Agree (fullNameIn m place i) (namingOf m place i)
 unfolding fullNameIn namingOf
 calls-agree m place i = go (wellFormed m)
   where
-    go : (b : Bool) → Agree (cond b (nameIn (decode m) place i) []) (cond b (cond (isEmpty (nameIn (decode m) place i)) (refusedName NoSuchPlace place) (Named (length (nameIn (decode m) place i)))) (refusedName NotWellFormed place))
-    go true = agree-name NoSuchPlace place (nameIn (decode m) place i)
-    go false = agree-refused _
+    go : (b : Bool) → Agree (cond b (nameIn (decode m) place i) []) (cond b (cond (isEmpty (nameIn (decode m) place i)) (refused 21 place 0) (accepted (length (nameIn (decode m) place i)) 0 0)) (refused 20 place 0))
+    go true = agree-name 20 place (nameIn (decode m) place i)
+    go false = agree-refused 19 place
 
-pub nameless-said : (m : List ℕ) (place i : ℕ) → wellFormed m ≡ true → Nameless (decode m) place i → namingOf m place i ≡ refusedName NoSuchPlace place
+pub nameless-said : (m : List ℕ) (place i : ℕ) → wellFormed m ≡ true → Nameless (decode m) place i → namingOf m place i ≡ refused 21 place 0
 unfolding namingOf isEmpty
 nameless-said m place i wf h = rw (wf, nameless-if h)
+
+-- ---- where a full name lies
+
+start-among : {rows : List Row} {i : ℕ} {r : Row} (at : ℕ) → At rows i r → startAmong at rows i ≡ cond (hasFullName (r .kind)) (at + length (texts (take i rows))) 0
+unfolding startAmong texts
+start-among at first = rw add-zero
+start-among at (behind {y = y} {xs = xs} {place = i} a) =
+    let k : at + length (y .text) + length (texts (take i xs)) ≡ at + length (y .text ++ texts (take i xs)) = omega (arith, length-append (y .text) (texts (take i xs))) in
+    start-among (at + length (y .text)) a ∙ rw k
+
+start-at : {ds : List (List Row)} {place i : ℕ} {rows : List Row} {r : Row} (at : ℕ) → At ds place rows → At rows i r
+    → startIn at ds place i ≡ cond (hasFullName (r .kind)) (at + length (texts (flat (take place ds) ++ take i rows))) 0
+unfolding startIn flat
+start-at at first b = start-among at b
+start-at {i = i} {rows = rows} at (behind {y = y} {xs = xs} {place = place} a) b =
+    let z : List Row = flat (take place xs) ++ take i rows in
+    let k : at + length (texts y) + length (texts z) ≡ at + length (texts ((y ++ flat (take place xs)) ++ take i rows))
+    = omega (arith, ap (λ (x : List Row). length (texts x)) (append-assoc y (flat (take place xs)) (take i rows)), ap length (texts-append y z), length-append (texts y) (texts z)) in
+    start-at (at + length (texts y)) a b ∙ rw k
+
+pub start-of : (m : List ℕ) (place i : ℕ) {rows : List Row} {r : Row} → wellFormed m ≡ true → At (decode m) place rows → At rows i r → hasFullName (r .kind) ≡ true
+    → fullNameStart m place i ≡ stringsStart + length (texts (flat (take place (decode m)) ++ take i rows))
+unfolding fullNameStart
+start-of m place i wf a b h = rw wf (start-at stringsStart a b ∙ rw h)
+
+-- ---- no two rows have their full names at one place
+
+module _ (r : Row) (n : nameAmong (r ∷ []) 0 ≡ [] → ⊥) where
+  first-there : (at : ℕ) (rows : List Row) → (startAmong at (r ∷ rows) 0 ≡ at) × (1 ≤ length (r .text))
+  unfolding nameAmong startAmong
+  first-there at rows = go (hasFullName (r .kind)) (r .text) n
+    where
+      go : (b : Bool) (x : List ℕ) → (cond b x [] ≡ [] → ⊥) → (cond b at 0 ≡ at) × (1 ≤ length x)
+      go true [] h = absurd (h refl)
+      go true (y ∷ x) h = (refl, omega arith)
+      go false x h = absurd (h refl)
+
+among-within : (rows : List Row) (at i : ℕ) → (nameAmong rows i ≡ [] → ⊥) → (at ≤ startAmong at rows i) × (startAmong at rows i < at + length (texts rows))
+unfolding nameAmong startAmong texts
+among-within [] at i h = absurd (h refl)
+among-within (r ∷ rows) at zero h =
+    let z = first-there r h at rows in
+    (omega (arith, z .0), omega (arith, z .0, z .1, length-append (r .text) (texts rows)))
+among-within (r ∷ rows) at (suc i) h =
+    let z = among-within rows (at + length (r .text)) i h in
+    (omega (arith, z .0), omega (arith, z .1, length-append (r .text) (texts rows)))
+
+among-one : (rows : List Row) (at i j : ℕ) → (nameAmong rows i ≡ [] → ⊥) → (nameAmong rows j ≡ [] → ⊥) → startAmong at rows i ≡ startAmong at rows j → i ≡ j
+unfolding nameAmong startAmong
+among-one [] at i j h k e = absurd (h refl)
+among-one (r ∷ rows) at zero zero h k e = refl
+among-one (r ∷ rows) at zero (suc j) h k e = let z = first-there r h at rows in absurd (omega (arith, e, z .0, z .1, among-within rows (at + length (r .text)) j k .0))
+among-one (r ∷ rows) at (suc i) zero h k e = let z = first-there r k at rows in absurd (omega (arith, e, z .0, z .1, among-within rows (at + length (r .text)) i h .0))
+among-one (r ∷ rows) at (suc i) (suc j) h k e = ap suc (among-one rows (at + length (r .text)) i j h k e)
+
+in-behind : (ds : List (List Row)) (at place i : ℕ) → (nameIn ds place i ≡ [] → ⊥) → at ≤ startIn at ds place i
+unfolding nameIn startIn
+in-behind [] at place i h = absurd (h refl)
+in-behind (d ∷ ds) at zero i h = among-within d at i h .0
+in-behind (d ∷ ds) at (suc place) i h = omega (arith, in-behind ds (at + length (texts d)) place i h)
+
+in-one : (ds : List (List Row)) (at p i q j : ℕ) → (nameIn ds p i ≡ [] → ⊥) → (nameIn ds q j ≡ [] → ⊥) → startIn at ds p i ≡ startIn at ds q j → (p ≡ q) × (i ≡ j)
+unfolding nameIn startIn
+in-one [] at p i q j h k e = absurd (h refl)
+in-one (d ∷ ds) at zero i zero j h k e = (refl, among-one d at i j h k e)
+in-one (d ∷ ds) at zero i (suc q) j h k e = absurd (omega (arith, e, among-within d at i h .1, in-behind ds (at + length (texts d)) q j k))
+in-one (d ∷ ds) at (suc p) i zero j h k e = absurd (omega (arith, e, among-within d at j k .1, in-behind ds (at + length (texts d)) p i h))
+in-one (d ∷ ds) at (suc p) i (suc q) j h k e = let z = in-one ds (at + length (texts d)) p i q j h k e in (ap suc (z .0), z .1)
+
+pub apart : (m : List ℕ) (p i q j : ℕ) → (fullNameIn m p i ≡ [] → ⊥) → (fullNameIn m q j ≡ [] → ⊥) → fullNameStart m p i ≡ fullNameStart m q j → (p ≡ q) × (i ≡ j)
+unfolding fullNameIn fullNameStart
+apart m p i q j = go (wellFormed m)
+  where
+    go : (b : Bool) → (cond b (nameIn (decode m) p i) [] ≡ [] → ⊥) → (cond b (nameIn (decode m) q j) [] ≡ [] → ⊥)
+        → cond b (startIn stringsStart (decode m) p i) 0 ≡ cond b (startIn stringsStart (decode m) q j) 0 → (p ≡ q) × (i ≡ j)
+    go true h k e = in-one (decode m) stringsStart p i q j h k e
+    go false h k e = absurd (h refl)

@@ -1,6 +1,6 @@
 -- What stands before the place stays, and what a later declaration is refused for.
 -- Assumes nothing.
-use mathlib.Core.Path.{_≡_, refl, sym, ap, _∙_}
+use mathlib.Core.Path.{_≡_, refl, sym, ap, subst, _∙_}
 use mathlib.Core.Bool.{Bool, true, false, cond}
 use mathlib.Core.List.{List, [], _∷_, _++_, append-assoc, append-nil}
 use Prim.Native.Nat.{ℕ, _+_, _<_}
@@ -10,10 +10,10 @@ use lib.ListN.{length, take, drop, length-append, length-take, take-append-drop}
 use lib.Seq.{take-at}
 use borrow.Author.Tests.{ltb-true}
 use Rattle.answer.specs.Places.{placed}
-use Rattle.answer.specs.declared.counts.Counts.{Counts}
 use Rattle.answer.specs.declared.refusal.Why.the-variants.{NoSuchPlace}
 use Rattle.answer.specs.declared.refusal.Refusal.{Refusal}
-use Rattle.answer.specs.declared.Answer.the-variants.{Done}
+use Rattle.answer.specs.declared.numbers.Numbers.{Numbers}
+use Rattle.answer.specs.Answers.{ofRefusal}
 use Rattle.row.specs.Rows.{Row}
 use Rattle.row.specs.Sets.{encode, decode, Within}
 use Rattle.row.proofs.Laws.{same-sizes, same-rows, same-texts}
@@ -25,7 +25,7 @@ use Rattle.set.specs.Lists.{Result, becomes, refuses, refuse, next, onRows, app
 use Rattle.set.specs.Calls.{answerOf, memoryOf, added, replaced}
 use Rattle.demands.specs.Building.{edit, At, first, behind, SameFront, LaterBarred}
 use Rattle.demands.proofs.Steps.{not-both, append-done, add-done, replace-done, add-good, replace-good}
-use Rattle.demands.proofs.Holding.{done-becomes, added-formed, replaced-formed}
+use Rattle.demands.proofs.Holding.{done-becomes, refused-refuses, added-formed, replaced-formed}
 use Rattle.demands.proofs.Joining.{append-barred}
 
 -- ---- bytes
@@ -37,21 +37,21 @@ same-front a b c v w = record { counts = same-sizes a b c v w; rows = same-rows 
 front-of : (a b c d e : List (List Row)) (m n : List ℕ) → d ≡ a ++ b → e ≡ a ++ c → Good d → Good e → m ≡ encode d → n ≡ encode e → SameFront a m n
 front-of a b c d e m n p q g h j k = rw (j, k, p, q) (same-front a b c (rw p at (good-within d g)) (rw q at (good-within e h)))
 
-module _ (m : List ℕ) (wf : wellFormed m ≡ true) (c : Counts) where
-  pub replaced-front : (place : ℕ) (t : List ℕ) → answerOf (replaced m place t) ≡ Done c → SameFront (take place (decode m)) (memoryOf m (replaced m place t)) m
+module _ (m : List ℕ) (wf : wellFormed m ≡ true) where
+  pub replaced-front : (place : ℕ) (t : List ℕ) → answerOf (replaced m place t) .number ≡ 0 → SameFront (take place (decode m)) (memoryOf m (replaced m place t)) m
   unfolding memoryOf edit
   replaced-front place t e =
-      let d = done-becomes (replaced m place t) c e in
+      let d = done-becomes (replaced m place t) e in
       let f : replaceIn (decode m) place t ≡ becomes (d .0) = sym (replaced-formed m wf place t) ∙ d .1 in
       let r = replace-done (decode m) place t (d .0) f in
       let x = exact m wf in
       front-of (take place (decode m)) (r .rows ∷ drop (place + 1) (decode m)) (drop place (decode m)) (d .0) (decode m) _ _
       (r .is) (sym (take-append-drop place (decode m))) (replace-good (decode m) place t (d .0) (x .1) f) (x .1) (ap (memoryOf m) (d .1)) (x .0)
 
-  pub added-front : (t : List ℕ) → answerOf (added m t) ≡ Done c → SameFront (decode m) (memoryOf m (added m t)) m
+  pub added-front : (t : List ℕ) → answerOf (added m t) .number ≡ 0 → SameFront (decode m) (memoryOf m (added m t)) m
   unfolding memoryOf
   added-front t e =
-      let d = done-becomes (added m t) c e in
+      let d = done-becomes (added m t) e in
       let f : addTo (decode m) t ≡ becomes (d .0) = sym (added-formed m wf t) ∙ d .1 in
       let r = add-done (decode m) t (d .0) f in
       let x = exact m wf in
@@ -96,7 +96,7 @@ appends-stop a (rows ∷ b) r e = go (append a rows) refl (λ d. appends-stop d 
 -- from the place on, where the place itself is not at fault
 module _ (ds : List (List Row)) (place : ℕ) (t : List ℕ) (r : Refusal) (past : place < r .place) where
   module _ (new : List Row) (l : place < length ds) (h : declared t ≡ read new) (rows : List Row) (rest : List (List Row)) where
-    stopped-later : (front : List (List Row)) → new ∷ drop (place + 1) ds ≡ front ++ (rows ∷ rest) → append (take place ds ++ front) rows ≡ refuses r → LaterBarred ds place t r
+    stopped-later : (front : List (List Row)) → new ∷ drop (place + 1) ds ≡ front ++ (rows ∷ rest) → append (take place ds ++ front) rows ≡ refuses r → LaterBarred ds place t (ofRefusal r)
     unfolding edit
     stopped-later front p e =
         let b = append-barred (take place ds ++ front) rows r e in
@@ -112,7 +112,7 @@ module _ (ds : List (List Row)) (place : ℕ) (t : List ℕ) (r : Refusal) (past
           recorded = there front p (omega arith);
           fault = b .0;
           barred = rw c (b .1);
-          is = b .2 ∙ ap (placed (b .0)) (sym k);
+          is = ap ofRefusal (b .2 ∙ ap (placed (b .0)) (sym k));
         }
       where
         there : (front : List (List Row)) → new ∷ drop (place + 1) ds ≡ front ++ (rows ∷ rest) → r .place ≡ place + length front → At ds (r .place) rows
@@ -123,7 +123,7 @@ module _ (ds : List (List Row)) (place : ℕ) (t : List ℕ) (r : Refusal) (past
             at-split ds (take (place + 1) ds ++ front) rows rest (r .place) s (omega (arith, length-append (take (place + 1) ds) front, length-take (place + 1) ds))
 
   later-on : (b : Bool) (o : Out) → ltb place (length ds) ≡ b → declared t ≡ o
-      → cond b (onRows o place (λ rows. appendAll (take place ds) (rows ∷ drop (place + 1) ds))) (refuse NoSuchPlace place 0) ≡ refuses r → LaterBarred ds place t r
+      → cond b (onRows o place (λ rows. appendAll (take place ds) (rows ∷ drop (place + 1) ds))) (refuse NoSuchPlace place 0) ≡ refuses r → LaterBarred ds place t (ofRefusal r)
   later-on false o p q e = let k : place ≡ r .place = here e in absurd (omega arith)
     where
       here : refuse NoSuchPlace place 0 ≡ refuses r → place ≡ r .place
@@ -136,6 +136,16 @@ module _ (ds : List (List Row)) (place : ℕ) (t : List ℕ) (r : Refusal) (past
       let z = appends-stop (take place ds) (new ∷ drop (place + 1) ds) r e in
       stopped-later new (ltb-true _ _ p) q (z .rows) (z .rest) (z .front) (z .parts) (z .refuse-it)
 
-  pub replace-later : replaceIn ds place t ≡ refuses r → LaterBarred ds place t r
+  pub replace-later : replaceIn ds place t ≡ refuses r → LaterBarred ds place t (ofRefusal r)
   unfolding replaceIn
   replace-later e = later-on (ltb place (length ds)) (declared t) refl refl e
+
+-- of memory, by the answer's numbers
+pub replaced-later : (m : List ℕ) → wellFormed m ≡ true → (place : ℕ) (t : List ℕ) → (answerOf (replaced m place t) .number ≡ 0 → ⊥) → place < answerOf (replaced m place t) .first
+    → LaterBarred (decode m) place t (answerOf (replaced m place t))
+unfolding answerOf
+replaced-later m wf place t h l =
+    let f = refused-refuses (replaced m place t) h in
+    let e : answerOf (replaced m place t) ≡ ofRefusal (f .0) = ap answerOf (f .1) in
+    subst (λ (n : Numbers). LaterBarred (decode m) place t n) (sym e)
+    (replace-later (decode m) place t (f .0) (subst (λ (n : Numbers). place < n .first) e l) (sym (replaced-formed m wf place t) ∙ f .1))

@@ -2,17 +2,17 @@
 -- Assumes nothing.
 use Prim.Native.Nat.{ℕ, suc, _+_, _*_, _<_, _≤_}
 use mathlib.Core.Path.{_≡_}
-use mathlib.Core.Bool.{true, false}
+use mathlib.Core.Bool.{Bool, true, false, cond}
 use mathlib.Core.List.{List, [], _∷_, _++_}
+use lib.Dec.{eqb}
 use lib.ListN.{length, take, drop}
-use Rattle.answer.specs.Limits.{noCounts}
 use Rattle.answer.specs.Places.{placed}
 use Rattle.answer.specs.declared.refusal.Why.{Why}
 use Rattle.answer.specs.declared.refusal.Why.the-variants.{TooManyRows, TooManyStringBytes, DefinedAlready, ReferenceUnknown}
 use Rattle.answer.specs.declared.refusal.Fault.{Fault}
-use Rattle.answer.specs.declared.refusal.Refusal.{Refusal}
+use Rattle.answer.specs.declared.numbers.Numbers.{Numbers}
 use Rattle.answer.specs.declared.Answer.{Answer}
-use Rattle.answer.specs.declared.Answer.the-variants.{Done, Refused}
+use Rattle.answer.specs.Answers.{accepted, ofRefusal, numbersOf}
 use Rattle.ground.specs.Bytes.{part}
 use Rattle.row.specs.Layout.{declarationLimit, rowLimit, stringLimit, rowSize, rowsStart, stringsStart, layoutLength}
 use Rattle.row.specs.Rows.{Row, texts}
@@ -27,9 +27,9 @@ use Rattle.set.specs.Naming.{hasFullName}
 
 -- ---- outcomes
 
--- what a call answers, and the lent memory afterwards
+-- what a call answers, in 01's numbers (`answer`: specs/Answers), and the lent memory afterwards
 pub record Outcome : Type 0 where
-  pub answer : Answer
+  pub answer : Numbers
   pub memory : List ℕ
 
 -- the outcome on memory m of a call with this result
@@ -37,28 +37,31 @@ unfoldable pub outcome : List ℕ → Result → Outcome
 outcome m r = record { answer = answerOf r; memory = memoryOf m r }
 
 -- the contract of open, add and replace: what it allows of answer and memory
-abbrev pub Allowed : List ℕ → Result → Outcome → Type 0
-Allowed m r o = (o .answer ≡ answerOf r) × (o .memory ≡ memoryOf m r)
+abbrev pub Allowed : List ℕ → Result → Answer × List ℕ → Type 0
+Allowed m r o = (numbersOf (o .0) ≡ answerOf r) × (o .1 ≡ memoryOf m r)
+
+-- accepted: the number is 0
+abbrev pub isDone : Numbers → Bool
+isDone n = eqb (n .number) 0
 
 -- ---- calls one after the other
 
 -- what open makes of any memory of the layout's length
 unfoldable pub emptySet : Outcome
-emptySet = record { answer = Done noCounts; memory = encode [] }
+emptySet = record { answer = accepted 0 0 0; memory = encode [] }
 
 -- the texts are added in turn, until one is refused
 unfoldable pub addEach : Outcome → List (List ℕ) → Outcome
 addEach o [] = o
-addEach o (t ∷ ts) = elim (o .answer) [ Done c ↦ addEach (outcome (o .memory) (added (o .memory) t)) ts | Refused f ↦ o ]
+addEach o (t ∷ ts) = cond (isDone (o .answer)) (addEach (outcome (o .memory) (added (o .memory) t)) ts) o
 
 -- the list with the one at a place replaced
 unfoldable pub edit : {A : Type 0} → List A → ℕ → A → List A
 edit xs place x = take place xs ++ (x ∷ drop (place + 1) xs)
 
 -- the first where the call was accepted, the second where it was refused
-unfoldable pub ifDone : Answer → List (List ℕ) → List (List ℕ) → List (List ℕ)
-ifDone (Done c) changed old = changed
-ifDone (Refused f) changed old = old
+unfoldable pub ifDone : Numbers → List (List ℕ) → List (List ℕ) → List (List ℕ)
+ifDone n changed old = cond (isDone n) changed old
 
 -- memory that any calls made from texts, accepted or refused, with the texts that it stands for
 pub data Built : List ℕ → List (List ℕ) → Type 0 where
@@ -139,15 +142,16 @@ pub data Barred (ds : List (List Row)) (rows : List Row) : Fault → Type 0 wher
   bad-name : {f : Fault} → length (flat ds) + length rows ≤ rowLimit → length (texts (flat ds)) + length (texts rows) ≤ stringLimit
       → FirstBroken (flat ds) rows f → Barred ds rows f
 
--- a declaration behind the place asked for is at fault, by the rows that the set holds for it
-pub record LaterBarred (ds : List (List Row)) (place : ℕ) (text : List ℕ) (r : Refusal) : Type 0 where
+-- a declaration behind the place asked for is at fault, by the rows that the set holds for it; n is the answer, n .first the place it tells
+pub record LaterBarred (ds : List (List Row)) (place : ℕ) (text : List ℕ) (n : Numbers) : Type 0 where
   -- the new text's rows
   pub new : List Row
   pub reads : declared text ≡ read new
   -- the later declaration's rows
   pub rows : List Row
-  pub recorded : At ds (r .place) rows
+  pub recorded : At ds (n .first) rows
   -- they may not join the declarations before them in the edited list
   pub fault : Fault
-  pub barred : Barred (take (r .place) (edit ds place new)) rows fault
-  pub is : r ≡ placed fault (r .place)
+  pub barred : Barred (take (n .first) (edit ds place new)) rows fault
+  -- the answer is the fault's number, that place, the fault's position
+  pub is : n ≡ ofRefusal (placed fault (n .first))
