@@ -1,7 +1,7 @@
 -- Memory that calls built: what it holds, and what the calls do to it.
 -- Assumes nothing.
-use mathlib.Core.Path.{_≡_, refl, sym, ap, _∙_}
-use mathlib.Core.Bool.{true, false}
+use mathlib.Core.Path.{_≡_, refl, sym, ap, subst, _∙_}
+use mathlib.Core.Bool.{Bool, true, false, cond}
 use mathlib.Core.List.{List, [], _∷_, _++_, append-assoc, append-nil}
 use Prim.Native.Nat.{ℕ, _<_, _≤_}
 use native.Mathlib.Omega.{arith}
@@ -172,6 +172,11 @@ record Each (x : Result) (o : Outcome) : Type 0 where
   answer : answerOf x ≡ o .answer
   memory : (d : List (List Row)) → x ≡ becomes d → encode d ≡ o .memory
 
+-- a refusal ends it
+stays : (ts : List (List ℕ)) (t m : List ℕ) (r : Refusal) → addEach (outcome m (refuses r)) (t ∷ ts) ≡ outcome m (refuses r)
+unfolding addEach outcome answerOf memoryOf
+stays ts t m r = ap (λ (b : Bool). cond b (addEach (outcome m (added m t)) ts) (outcome m (refuses r))) (not-done r)
+
 each-added : (ts : List (List ℕ)) (m : List ℕ) (x : Result) → ((d : List (List Row)) → x ≡ becomes d → Good d) → Each (next x (λ d. addAll d ts)) (addEach (outcome m x) ts)
 unfolding addEach addAll outcome answerOf memoryOf
 each-added [] m (becomes d) g = record { answer = refl; memory = λ y e. ap encode (sym (becomes-inj e)) }
@@ -179,7 +184,7 @@ each-added [] m (refuses r) g = record { answer = refl; memory = λ d e. not-bot
 each-added (t ∷ ts) m (becomes d) g =
     let a : added (encode d) t ≡ addTo d t = added-encoded d (g d refl) t in
     rw a (each-added ts (encode d) (addTo d t) (λ y e. add-good d t y (g d refl) e))
-each-added (t ∷ ts) m (refuses r) g = rw (not-done r) (record { answer = refl; memory = λ d e. not-both (sym e) })
+each-added (t ∷ ts) m (refuses r) g = subst (Each (refuses r)) (sym (stays ts t m r)) (record { answer = refl; memory = λ d e. not-both (sym e) })
 
 each-run : (ts : List (List ℕ)) → Each (addAll [] ts) (addEach emptySet ts)
 each-run ts = rw (← empty-outcome []) (each-added ts [] (becomes []) (λ d e. rw (← becomes-inj e) none-good))
