@@ -14,14 +14,13 @@ use Rattle.name.specs.Rule.{mayStand}
 use Rattle.name.specs.Begin.{Begins, canBegin}
 use Rattle.name.proofs.Parts.{never}
 use Rattle.name.proofs.Laws.{name-lead, name-else}
-use Rattle.name.proofs.Bytewise.{keeps, keeps-simple, keeps-dotted, keeps-on, keeps-front, namespace-some}
+use Rattle.name.proofs.Bytewise.{letter-stands, keeps, keeps-simple, keeps-dotted, keeps-on, keeps-front, namespace-some}
 
 -- ---- one byte
 
-letter-stands : (dots first : Bool) → mayStand dots first 97 ≡ true
-unfolding mayStand isFirst isLater isLetter isWithin
-letter-stands dots true = refl
-letter-stands dots false = refl
+an-a : isLetter 97 ≡ true
+unfolding isLetter isWithin
+an-a = refl
 
 within-not : (low high b : ℕ) → high < b → isWithin low high b ≡ false
 unfolding isWithin
@@ -49,12 +48,12 @@ stands-low dots first b e = go (decLt b 128)
 
 keeps-letter : (dots first : Bool) → keeps dots first (ascii "a") ≡ true
 unfolding keeps
-keeps-letter dots first = rw (letter-stands dots first)
+keeps-letter dots first = rw (letter-stands dots first 97 an-a)
 
 -- one byte
 pub keeps-one : (dots first : Bool) (b : ℕ) → keeps dots first (b ∷ ascii "a") ≡ mayStand dots first b
 unfolding keeps
-keeps-one dots first b = rw (letter-stands dots (eqb b dot)) (and-true (mayStand dots first b))
+keeps-one dots first b = rw (letter-stands dots (eqb b dot) 97 an-a) (and-true (mayStand dots first b))
 
 keeps-follows : (dots first : Bool) (s r : List ℕ) → keeps dots first (s ++ r) ≡ true → keeps dots first (s ++ ascii "a") ≡ true
 keeps-follows dots first [] r e = keeps-letter dots first

@@ -24,10 +24,10 @@ use Rattle.row.specs.declared.kind.Kind.{Kind}
 use Rattle.resolve.specs.WellFormed.{wellFormed}
 use Rattle.resolve.proofs.MemoryLaws.{rows-cons}
 use Rattle.resolve.proofs.RuleLaws.{no-bytes}
-use Rattle.set.specs.Naming.{hasFullName, nameAmong, nameIn, fullNameIn, startAmong, startIn, fullNameStart, refusedName, numbersOfNaming, namingOf}
+use Rattle.set.specs.Naming.{hasFullName, nameAmong, nameIn, fullNameIn, startAmong, startIn, fullNameStart, numbersOfNaming, namingOf}
 use Rattle.set.specs.declared.naming.Naming.{Naming}
 use Rattle.set.specs.declared.naming.Naming.the-variants.{Named, Refused}
-use Rattle.set.specs.Steps.{rowName, rowNameStart}
+use Rattle.set.specs.Steps.{rowName, rowNameStart, refusedName}
 use Rattle.set.proofs.Places.{Place, is-encoded, is-within, is-long, is-count, is-good, is-before, place-of}
 
 -- ---- lists

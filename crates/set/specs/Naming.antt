@@ -4,7 +4,6 @@ use Prim.Native.Nat.{ℕ, zero, suc, _+_}
 use mathlib.Core.Bool.{Bool, cond, _||_}
 use mathlib.Core.List.{List, [], _∷_}
 use lib.ListN.{length}
-use Rattle.answer.specs.declared.refusal.Why.{Why}
 use Rattle.answer.specs.declared.numbers.Numbers.{Numbers}
 use Rattle.answer.specs.Answers.{accepted, refused, ofRefusal}
 use Rattle.name.specs.Name.{isEmpty}
@@ -56,9 +55,6 @@ unfoldable pub fullNameStart : List ℕ → ℕ → ℕ → ℕ
 fullNameStart m place i = cond (wellFormed m) (startIn stringsStart (decode m) place i) 0
 
 -- ---- why there is none
-
-abbrev pub refusedName : Why → ℕ → Naming
-refusedName why place = Refused (record { why = why; place = place; at = 0 })
 
 -- 01's numbers for each case: 0 and the full name's length, or the refusal's number, place and position
 abbrev pub numbersOfNaming : Naming → Numbers

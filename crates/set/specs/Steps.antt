@@ -7,6 +7,7 @@ use mathlib.Core.List.{List, []}
 use lib.ListN.{length}
 use Rattle.answer.specs.declared.Answer.{Answer}
 use Rattle.answer.specs.declared.counts.Counts.{Counts}
+use Rattle.answer.specs.declared.refusal.Why.{Why}
 use Rattle.answer.specs.Limits.{countsOf}
 use Rattle.answer.specs.Answers.{numbersOf}
 use Rattle.row.specs.Layout.{rowLimit, stringLimit, layoutLength}
@@ -20,6 +21,8 @@ use Rattle.schema.specs.declared.walked.Walked.the-variants.{Read, Bad}
 use Rattle.set.specs.Lists.{Result}
 use Rattle.set.specs.Calls.{answerOf, memoryOf}
 use Rattle.set.specs.Naming.{hasFullName}
+use Rattle.set.specs.declared.naming.Naming.{Naming}
+use Rattle.set.specs.declared.naming.Naming.the-variants.{Refused}
 
 -- the full name of a row of the memory, and where it begins
 unfoldable pub rowName : List ℕ → ℕ → List ℕ
@@ -27,6 +30,10 @@ rowName m i = cond (hasFullName (entryAt m i .kind)) (textAt m i) []
 
 unfoldable pub rowNameStart : List ℕ → ℕ → ℕ
 rowNameStart m i = cond (hasFullName (entryAt m i .kind)) (textPlace m i) 0
+
+-- there is no full name, for this reason
+abbrev pub refusedName : Why → ℕ → Naming
+refusedName why place = Refused (record { why = why; place = place; at = 0 })
 
 -- rows behind those that are counted, as one declaration more: the counts, and the memory
 unfoldable pub countedMore : Counts → List Row → Counts

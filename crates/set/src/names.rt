@@ -18,8 +18,8 @@ ghost use Rattle.row.specs.Sets.{decode};
 ghost use Rattle.row.specs.Memory.{behind};
 ghost use Rattle.resolve.specs.Kinds.{isKind};
 ghost use Rattle.resolve.specs.WellFormed.{wellFormed};
-ghost use Rattle.set.specs.Naming.{hasFullName, nameIn, fullNameIn, startIn, fullNameStart, refusedName, numbersOfNaming, namingOf};
-ghost use Rattle.set.specs.Steps.{rowName, rowNameStart};
+ghost use Rattle.set.specs.Naming.{hasFullName, nameIn, fullNameIn, startIn, fullNameStart, numbersOfNaming, namingOf};
+ghost use Rattle.set.specs.Steps.{rowName, rowNameStart, refusedName};
 
 fn is_kind(kind: Kind, k: Kind) -> bool
     ensures { λ r. ⌜ r ≡ isKind kind k ⌝ }
