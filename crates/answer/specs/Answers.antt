@@ -24,7 +24,7 @@ ofCounts c = accepted (c .declarations) (c .rows) (c .«string_bytes»)
 abbrev pub ofRefusal : Refusal → Numbers
 ofRefusal r = refused (numberOf (r .why)) (r .place) (r .at)
 
--- what open, add and replace answer
+-- what open and put answer
 abbrev pub numbersOf : Answer → Numbers
 numbersOf (Done c) = ofCounts c
 numbersOf (Refused r) = ofRefusal r

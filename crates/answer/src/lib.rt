@@ -9,7 +9,7 @@ pub use refusal::Fault;
 pub use refusal::Refusal;
 pub use refusal::Why;
 
-// What open, add and replace answer.
+// What open and put answer.
 pub enum Answer {
     Done(Counts),
     Refused(Refusal),

@@ -13,7 +13,7 @@ ghost use Rattle.json.specs.Json.{scanned};
 ghost use Rattle.rabin.specs.Rabin.{rabinOf};
 ghost use Rattle.resolve.specs.WellFormed.{wellFormed};
 ghost use Rattle.schema.specs.Schema.{declared};
-ghost use Rattle.set.specs.Calls.{answerOf, memoryOf, added, replaced};
+ghost use Rattle.set.specs.Calls.{answerOf, memoryOf, put};
 
 #[no_mangle]
 pub extern "C" fn bench_fingerprint(bytes: &[u8]) -> i64
@@ -69,19 +69,11 @@ fn rows_in(a: Answer) -> usize
 
 // How many rows the set has then, 0 where the text is refused.
 #[no_mangle]
-pub extern "C" fn bench_add(memory: &mut [u8], text: &[u8]) -> usize
-    ensures { λ r. ⌜ (r ≡ rowsIn (answerOf (added (now (memory .entry)) (now (text .entry)))))
-        × (now (memory .exit) ≡ memoryOf (now (memory .entry)) (added (now (memory .entry)) (now (text .entry)))) ⌝ }
+pub extern "C" fn bench_put(memory: &mut [u8], place: usize, text: &[u8]) -> usize
+    ensures { λ r. ⌜ (r ≡ rowsIn (answerOf (put (now (memory .entry)) place (now (text .entry)))))
+        × (now (memory .exit) ≡ memoryOf (now (memory .entry)) (put (now (memory .entry)) place (now (text .entry)))) ⌝ }
 {
-    rows_in(set::add(memory, text))
-}
-
-#[no_mangle]
-pub extern "C" fn bench_replace(memory: &mut [u8], place: usize, text: &[u8]) -> usize
-    ensures { λ r. ⌜ (r ≡ rowsIn (answerOf (replaced (now (memory .entry)) place (now (text .entry)))))
-        × (now (memory .exit) ≡ memoryOf (now (memory .entry)) (replaced (now (memory .entry)) place (now (text .entry)))) ⌝ }
-{
-    rows_in(set::replace(memory, place, text))
+    rows_in(set::put(memory, place, text))
 }
 
 fn length_in(w: Written) -> usize

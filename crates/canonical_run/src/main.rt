@@ -42,7 +42,7 @@ fn put_canonical(mem: &[u8], buffer: &mut [u8], out: &mut [u8]) -> usize {
 // The answer to a text, in a set of its own.
 fn answer(text: &[u8], mem: &mut [u8], buffer: &mut [u8], out: &mut [u8]) -> usize {
     set::open(mem);
-    match set::add(mem, text) {
+    match set::put(mem, 0, text) {
         Answer::Refused(r) => put_refusal(out, 0, r),
         Answer::Done(_) => put_canonical(mem, buffer, out),
     }

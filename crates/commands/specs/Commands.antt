@@ -1,7 +1,7 @@
 -- The commands of a script, by the words of a line.
 -- Assumes nothing.
 use Prim.Native.Nat.{ℕ, _-_, _*_, _/_}
-use mathlib.Core.Bool.{Bool, cond, _||_}
+use mathlib.Core.Bool.{Bool, cond}
 use mathlib.Core.List.{List, [], _∷_}
 use lib.Dec.{ltb}
 use lib.ListN.{length, take}
@@ -16,7 +16,7 @@ use Rattle.script.specs.declared.numbers.Number.the-variants.{Is, NoNumber}
 use Rattle.script.specs.declared.hex.Unhexed.{Unhexed}
 use Rattle.script.specs.declared.hex.Unhexed.the-variants.{Bytes, NotHex}
 use Rattle.commands.specs.declared.command.Call.{Call}
-use Rattle.commands.specs.declared.command.Call.the-variants.{Open, Add, Replace, Name, Canonical, Fingerprint, Rows, Scan, Digest}
+use Rattle.commands.specs.declared.command.Call.the-variants.{Open, Put, Name, Canonical, Fingerprint, Rows, Scan, Digest}
 use Rattle.commands.specs.declared.command.Command.{Command}
 use Rattle.commands.specs.declared.command.Command.the-variants.{Lend, Fill, Poke, Ask, Unknown}
 
@@ -34,22 +34,16 @@ ofNumber verb n =
     (cond (same verb (ascii "fingerprint")) (Ask (Fingerprint n))
     (cond (same verb (ascii "rows")) (Ask (Rows n)) Unknown)))
 
-unfoldable pub ofText : List ℕ → ℕ → Command
-ofText verb n = cond (same verb (ascii "add")) (Ask (Add n)) (cond (same verb (ascii "scan")) (Ask (Scan n)) Unknown)
-
-unfoldable pub takesText : List ℕ → Bool
-takesText verb = same verb (ascii "add") || same verb (ascii "scan")
-
 abbrev pub byNumber : List ℕ → Number → Command
 byNumber verb (Is n) = ofNumber verb n
 byNumber verb NoNumber = Unknown
 
-abbrev pub byText : List ℕ → Unhexed → Command
-byText verb (Bytes n) = ofText verb n
-byText verb NotHex = Unknown
+abbrev pub scanBy : Unhexed → Command
+scanBy (Bytes n) = Ask (Scan n)
+scanBy NotHex = Unknown
 
 unfoldable pub ofOne : List ℕ → Number → Unhexed → Command
-ofOne verb number bytes = cond (takesText verb) (byText verb bytes) (byNumber verb number)
+ofOne verb number bytes = cond (same verb (ascii "scan")) (scanBy bytes) (byNumber verb number)
 
 abbrev pub nameOf : Number → Number → Command
 nameOf NoNumber row = Unknown
@@ -57,7 +51,7 @@ nameOf (Is place) NoNumber = Unknown
 nameOf (Is place) (Is row) = Ask (Name place row)
 
 unfoldable pub ofBytesAt : List ℕ → ℕ → ℕ → Command
-ofBytesAt verb at n = cond (same verb (ascii "poke")) (Poke at n) (cond (same verb (ascii "replace")) (Ask (Replace at n)) Unknown)
+ofBytesAt verb at n = cond (same verb (ascii "poke")) (Poke at n) (cond (same verb (ascii "put")) (Ask (Put at n)) Unknown)
 
 abbrev pub byBytesAt : List ℕ → Number → Unhexed → Command
 byBytesAt verb NoNumber bytes = Unknown
@@ -94,8 +88,7 @@ lastWord line cut =
 -- how long a call's text is, 0 where it has none
 abbrev pub textLength : Call → ℕ
 textLength Open = 0
-textLength (Add n) = n
-textLength (Replace place n) = n
+textLength (Put place n) = n
 textLength (Name place row) = 0
 textLength (Canonical place offset room) = 0
 textLength (Fingerprint place) = 0

@@ -3,10 +3,8 @@
 // A call of the library.
 pub enum Call {
     Open,
-    // A text.
-    Add(usize),
     // A place and a text.
-    Replace(usize, usize),
+    Put(usize, usize),
     // A place and a row.
     Name(usize, usize),
     // A place, an offset and the buffer's length.

@@ -13,7 +13,7 @@ ghost use mathlib.Core.Path.{_≡_};
 ghost use Rattle.ground.specs.Bytes.{store};
 ghost use Rattle.script.specs.Words.{wordsOf};
 ghost use Rattle.script.specs.Hex.{wordBytes};
-ghost use Rattle.commands.specs.Commands.{ofNone, fillBy, ofNumber, ofText, takesText, ofOne, nameOf, ofBytesAt, ofTwo, canonicalBy, ofThree, ofWords, lastWord, textLength, ofCut, commandOf};
+ghost use Rattle.commands.specs.Commands.{ofNone, fillBy, ofNumber, scanBy, ofOne, nameOf, ofBytesAt, ofTwo, canonicalBy, ofThree, ofWords, lastWord, textLength, ofCut, commandOf};
 
 fn of_none(verb: &[u8]) -> Command
     ensures { λ r. ⌜ r ≡ ofNone (now (verb .entry)) ⌝ }
@@ -54,36 +54,21 @@ fn of_number(verb: &[u8], n: usize) -> Command
     Command::Unknown
 }
 
-fn of_text(verb: &[u8], n: usize) -> Command
-    ensures { λ r. ⌜ r ≡ ofText (now (verb .entry)) n ⌝ }
+fn scan_of(bytes: Unhexed) -> Command
+    ensures { λ r. ⌜ r ≡ scanBy bytes ⌝ }
 {
-    if same(verb, b"add") {
-        return Command::Ask(Call::Add(n));
+    match bytes {
+        Unhexed::Bytes(n) => Command::Ask(Call::Scan(n)),
+        Unhexed::NotHex => Command::Unknown,
     }
-    if same(verb, b"scan") {
-        return Command::Ask(Call::Scan(n));
-    }
-    Command::Unknown
-}
-
-fn takes_text(verb: &[u8]) -> bool
-    ensures { λ r. ⌜ r ≡ takesText (now (verb .entry)) ⌝ }
-{
-    if same(verb, b"add") {
-        return true;
-    }
-    same(verb, b"scan")
 }
 
 // A verb with one word, which stands for a number or for bytes or for both.
 fn of_one(verb: &[u8], number: Number, bytes: Unhexed) -> Command
     ensures { λ r. ⌜ r ≡ ofOne (now (verb .entry)) number bytes ⌝ }
 {
-    if takes_text(verb) {
-        return match bytes {
-            Unhexed::Bytes(n) => of_text(verb, n),
-            Unhexed::NotHex => Command::Unknown,
-        };
+    if same(verb, b"scan") {
+        return scan_of(bytes);
     }
     match number {
         Number::Is(n) => of_number(verb, n),
@@ -109,8 +94,8 @@ fn of_bytes_at(verb: &[u8], at: usize, n: usize) -> Command
     if same(verb, b"poke") {
         return Command::Poke(at, n);
     }
-    if same(verb, b"replace") {
-        return Command::Ask(Call::Replace(at, n));
+    if same(verb, b"put") {
+        return Command::Ask(Call::Put(at, n));
     }
     Command::Unknown
 }
@@ -196,8 +181,7 @@ fn text_length(call: Call) -> usize
 {
     match call {
         Call::Open => 0,
-        Call::Add(n) => n,
-        Call::Replace(_, n) => n,
+        Call::Put(_, n) => n,
         Call::Name(_, _) => 0,
         Call::Canonical(_, _, _) => 0,
         Call::Fingerprint(_) => 0,

@@ -3,7 +3,7 @@
 -- `.second`, `.third` are the set's counts; else it is the refusal's, `.first` the declaration's place, `.second` the byte position.
 -- Assumes nothing.
 use mathlib.Core.Path.{_≡_, sym, _∙_}
-use mathlib.Core.Bool.{true}
+use mathlib.Core.Bool.{true, false}
 use mathlib.Core.List.{List, [], _∷_, _++_}
 use Prim.Native.Nat.{ℕ, _+_, _^_, _<_, _≤_}
 use lib.ListN.{length, take}
@@ -12,7 +12,7 @@ use Rattle.answer.specs.declared.Answer.{Answer}
 use Rattle.answer.specs.Answers.{accepted, refused, ofCounts, numbersOf}
 use Rattle.answer.proofs.Laws.{numbers-one}
 use Rattle.decimals.specs.Limits.{largestNumber}
-use Rattle.row.specs.Layout.{stringsStart, layoutLength}
+use Rattle.row.specs.Layout.{declarationLimit, stringsStart, layoutLength}
 use Rattle.row.specs.Rows.{Row, texts}
 use Rattle.row.specs.Sets.{flat, decode}
 use Rattle.row.specs.Memory.{behind, setCounts}
@@ -20,7 +20,7 @@ use Rattle.row.specs.declared.kind.Kind.the-variants.{Fixed}
 use Rattle.resolve.specs.WellFormed.{wellFormed}
 use Rattle.resolve.proofs.Laws.{exact}
 use Rattle.set.specs.Lists.{Result}
-use Rattle.set.specs.Calls.{answerOf, memoryOf, opened, added, replaced}
+use Rattle.set.specs.Calls.{answerOf, memoryOf, opened, put}
 use Rattle.set.specs.Naming.{hasFullName, fullNameIn, fullNameStart, numbersOfNaming, namingOf}
 use Rattle.set.specs.declared.naming.Naming.{Naming}
 use Rattle.set.proofs.Laws.{naming-one, full-part}
@@ -29,11 +29,12 @@ use Rattle.breach.specs.Breach.{BreaksAt}
 use Rattle.breach.proofs.Theorems.{breaks-there}
 use Rattle.told.specs.Told.{Rule, keepsOf, Told}
 use Rattle.told.proofs.Told.{lettered}
-use Rattle.demands.specs.Building.{outcome, Allowed, emptySet, addEach, edit, Built, Joins, At, SameFront, Nameless, LaterBarred}
-use Rattle.demands.proofs.Holding.{refused-leaves, added-kept, replaced-kept, opened-formed, opened-empty, opened-length, held-formed, built-holds, held-answer, held-memory, held-nowhere, held-is, accepted-built}
+use Rattle.demands.specs.Building.{outcome, Allowed, emptySet, putEach, edit, Built, Joins, At, SameFront, Nameless, LaterBarred}
+use Rattle.demands.proofs.Steps.{edit-last}
+use Rattle.demands.proofs.Holding.{refused-leaves, put-kept, opened-formed, opened-empty, opened-length, held-formed, built-holds, held-answer, held-memory, held-nowhere, held-is, accepted-built}
 use Rattle.demands.proofs.Joined.{accepts-only, accepts-if}
-use Rattle.demands.proofs.Staying.{added-front, replaced-front, replaced-later}
-use Rattle.demands.proofs.Letter.{put-tells, addition-tells}
+use Rattle.demands.proofs.Staying.{put-front, put-later}
+use Rattle.demands.proofs.Letter.{formed-said, formed-only, nowhere-said, nowhere-only, full-said, full-only, put-tells}
 use Rattle.demands.proofs.Named.{full-formed, name-of, nameless-if, nameless-only, nameless-said, calls-agree, start-of, apart, set-row}
 use Rattle.demands.proofs.Fitting.{row-fits}
 
@@ -57,11 +58,8 @@ outcome-one m r a b p q = λ i. (answer-told (a .0) (b .0) (one (p .0) (q .0)) i
 pub open-one : (m : List ℕ) (a b : Answer × List ℕ) → Allowed m (opened m) a → Allowed m (opened m) b → a ≡ b
 open-one m = outcome-one m (opened m)
 
-pub add-one : (m text : List ℕ) (a b : Answer × List ℕ) → Allowed m (added m text) a → Allowed m (added m text) b → a ≡ b
-add-one m text = outcome-one m (added m text)
-
-pub replace-one : (m : List ℕ) (place : ℕ) (text : List ℕ) (a b : Answer × List ℕ) → Allowed m (replaced m place text) a → Allowed m (replaced m place text) b → a ≡ b
-replace-one m place text = outcome-one m (replaced m place text)
+pub put-one : (m : List ℕ) (place : ℕ) (text : List ℕ) (a b : Answer × List ℕ) → Allowed m (put m place text) a → Allowed m (put m place text) b → a ≡ b
+put-one m place text = outcome-one m (put m place text)
 
 -- a full name: its bytes, and the pointer to them, where memory's own is `first`
 pub full-name-one : (m : List ℕ) (first : ℕ × ℕ) (place i : ℕ) (a b : List ℕ × (ℕ × ℕ)) → (a .0 ≡ fullNameIn m place i) × (a .1 ≡ behind first (fullNameStart m place i))
@@ -79,43 +77,65 @@ refusal-writes-nothing = refused-leaves
 pub open-well-formed : (m : List ℕ) → length m ≡ layoutLength → wellFormed (memoryOf m (opened m)) ≡ true
 open-well-formed = opened-formed
 
-pub add-well-formed : (m : List ℕ) → wellFormed m ≡ true → (text : List ℕ) → wellFormed (memoryOf m (added m text)) ≡ true
-add-well-formed = added-kept
+pub put-well-formed : (m : List ℕ) → wellFormed m ≡ true → (place : ℕ) (text : List ℕ) → wellFormed (memoryOf m (put m place text)) ≡ true
+put-well-formed = put-kept
 
-pub replace-well-formed : (m : List ℕ) → wellFormed m ≡ true → (place : ℕ) (text : List ℕ) → wellFormed (memoryOf m (replaced m place text)) ≡ true
-replace-well-formed = replaced-kept
+-- whatever the text: 20 exactly where memory is not well formed, 21 exactly above the count, 22 exactly at the place behind the last of a full set
+module _ (m : List ℕ) (place : ℕ) (text : List ℕ) where
+  pub twenty-if : wellFormed m ≡ false → answerOf (put m place text) ≡ refused 20 place 0
+  twenty-if = formed-said m place text
 
--- ---- DEMAND 2: a text is accepted exactly if it may join the set, and then its rows are one declaration more
+  pub twenty-only : answerOf (put m place text) .number ≡ 20 → wellFormed m ≡ false
+  twenty-only = formed-only m place text
+
+  pub twenty-one-if : wellFormed m ≡ true → length (decode m) < place → answerOf (put m place text) ≡ refused 21 place 0
+  twenty-one-if = nowhere-said m place text
+
+  pub twenty-one-only : answerOf (put m place text) .number ≡ 21 → (wellFormed m ≡ true) × (length (decode m) < place)
+  twenty-one-only = nowhere-only m place text
+
+  pub twenty-two-if : wellFormed m ≡ true → length (decode m) ≡ declarationLimit → place ≡ declarationLimit → answerOf (put m place text) ≡ refused 22 declarationLimit 0
+  twenty-two-if = full-said m place text
+
+  pub twenty-two-only : answerOf (put m place text) .number ≡ 22 → (wellFormed m ≡ true) × (length (decode m) ≡ declarationLimit) × (place ≡ declarationLimit)
+  twenty-two-only = full-only m place text
+
+-- ---- DEMAND 2: a text put at the count is accepted exactly if it may join the set, and then its rows are one declaration more
 
 module _ (m : List ℕ) (wf : wellFormed m ≡ true) (text : List ℕ) where
   -- only then: an accepted text joins, memory holds the set with its rows last, and the counts are that set's
-  pub add-accepts-only : answerOf (added m text) .number ≡ 0
-      → (rows : List Row) × Joins (decode m) text rows × (decode (memoryOf m (added m text)) ≡ decode m ++ (rows ∷ [])) × (answerOf (added m text) ≡ ofCounts (setCounts (decode m ++ (rows ∷ []))))
-  add-accepts-only = accepts-only m wf text
+  pub joins-only : answerOf (put m (length (decode m)) text) .number ≡ 0
+      → (rows : List Row) × Joins (decode m) text rows × (decode (memoryOf m (put m (length (decode m)) text)) ≡ decode m ++ (rows ∷ []))
+      × (answerOf (put m (length (decode m)) text) ≡ ofCounts (setCounts (decode m ++ (rows ∷ []))))
+  joins-only = accepts-only m wf text
 
   -- and always then: so a set that refuses all is ruled out
-  pub add-accepts-if : (rows : List Row) → Joins (decode m) text rows
-      → (answerOf (added m text) ≡ ofCounts (setCounts (decode m ++ (rows ∷ [])))) × (decode (memoryOf m (added m text)) ≡ decode m ++ (rows ∷ []))
-  add-accepts-if = accepts-if m wf text
+  pub joins-if : (rows : List Row) → Joins (decode m) text rows
+      → (answerOf (put m (length (decode m)) text) ≡ ofCounts (setCounts (decode m ++ (rows ∷ [])))) × (decode (memoryOf m (put m (length (decode m)) text)) ≡ decode m ++ (rows ∷ []))
+  joins-if = accepts-if m wf text
 
--- ---- DEMAND 3: replacing a text of a set is adding the edited list of texts, one by one, to the empty set
+-- ---- DEMAND 3: a text put at a place of a set is the edited list of texts, put one by one at the end of the empty set
 
 module _ {m : List ℕ} {ts : List (List ℕ)} (built : Built m ts) (place : ℕ) (text : List ℕ) where
   -- the whole answer: the counts, or number, place and position of the refusal
-  pub replace-answer : place < length ts → answerOf (replaced m place text) ≡ addEach emptySet (edit ts place text) .answer
-  replace-answer = held-answer (built-holds built) place text
+  pub put-answer : place ≤ length ts → answerOf (put m place text) ≡ putEach emptySet (edit ts place text) .answer
+  put-answer = held-answer (built-holds built) place text
 
   -- where it is accepted, every byte of memory
-  pub replace-memory : place < length ts → answerOf (replaced m place text) .number ≡ 0 → memoryOf m (replaced m place text) ≡ addEach emptySet (edit ts place text) .memory
-  replace-memory = held-memory (built-holds built) place text
+  pub put-memory : place ≤ length ts → answerOf (put m place text) .number ≡ 0 → memoryOf m (put m place text) ≡ putEach emptySet (edit ts place text) .memory
+  put-memory = held-memory (built-holds built) place text
 
   -- where it is refused, memory is as it was
-  pub replace-leaves : (answerOf (replaced m place text) .number ≡ 0 → ⊥) → memoryOf m (replaced m place text) ≡ m
-  replace-leaves = refused-leaves m (replaced m place text)
+  pub put-leaves : (answerOf (put m place text) .number ≡ 0 → ⊥) → memoryOf m (put m place text) ≡ m
+  put-leaves = refused-leaves m (put m place text)
 
-  -- 21 where there is no such place
-  pub replace-nowhere : length ts ≤ place → answerOf (replaced m place text) ≡ refused 21 place 0
-  replace-nowhere = held-nowhere (built-holds built) place text
+  -- above the count there is no edited list: 21
+  pub put-nowhere : length ts < place → answerOf (put m place text) ≡ refused 21 place 0
+  put-nowhere = held-nowhere (built-holds built) place text
+
+-- at the count the edited list has the text behind all others
+pub edited-last : {A : Type 0} (xs : List A) (x : A) → edit xs (length xs) x ≡ xs ++ (x ∷ [])
+edited-last = edit-last
 
 -- the empty set is what open makes of any memory of the layout's length, and it accepts no other
 pub open-empties : (m : List ℕ) → length m ≡ layoutLength → outcome m (opened m) ≡ emptySet
@@ -124,41 +144,34 @@ open-empties = opened-empty
 pub open-accepts-only : (m : List ℕ) → answerOf (opened m) .number ≡ 0 → length m ≡ layoutLength
 open-accepts-only = opened-length
 
--- memory that calls built from texts is what adding those texts one by one gives, and each of them is accepted
-pub built-is : {m : List ℕ} {ts : List (List ℕ)} → Built m ts → (c : Counts) × (addEach emptySet ts ≡ record { answer = ofCounts c; memory = m })
+-- memory that calls built from texts is what putting those texts one by one gives, and each of them is accepted
+pub built-is : {m : List ℕ} {ts : List (List ℕ)} → Built m ts → (c : Counts) × (putEach emptySet ts ≡ record { answer = ofCounts c; memory = m })
 built-is b = held-is (built-holds b)
 
--- and what adding texts one by one gives, if each is accepted, is memory that calls built from them
-pub accepted-is-built : (ts : List (List ℕ)) → addEach emptySet ts .answer .number ≡ 0 → Built (addEach emptySet ts .memory) ts
+-- and what putting texts one by one gives, if each is accepted, is memory that calls built from them
+pub accepted-is-built : (ts : List (List ℕ)) → putEach emptySet ts .answer .number ≡ 0 → Built (putEach emptySet ts .memory) ts
 accepted-is-built = accepted-built
 
 pub built-well-formed : {m : List ℕ} {ts : List (List ℕ)} → Built m ts → wellFormed m ≡ true
 built-well-formed b = held-formed (built-holds b)
 
--- ---- NOT MOVED: no row or string before the place moves
+-- ---- NOT MOVED: no row or string before the place moves, whatever the place; at the count these are all that the set had
 
-module _ (m : List ℕ) (wf : wellFormed m ≡ true) where
-  pub replace-moves-nothing : (place : ℕ) (text : List ℕ) → answerOf (replaced m place text) .number ≡ 0 → SameFront (take place (decode m)) (memoryOf m (replaced m place text)) m
-  replace-moves-nothing = replaced-front m wf
-
-  pub add-moves-nothing : (text : List ℕ) → answerOf (added m text) .number ≡ 0 → SameFront (decode m) (memoryOf m (added m text)) m
-  add-moves-nothing = added-front m wf
+pub put-moves-nothing : (m : List ℕ) → wellFormed m ≡ true → (place : ℕ) (text : List ℕ) → answerOf (put m place text) .number ≡ 0 → SameFront (take place (decode m)) (memoryOf m (put m place text)) m
+put-moves-nothing = put-front
 
 -- ---- THE POSITION: where a later declaration breaks, it is reported by its place, with the byte position its rows recorded; 23 and 24 at 0
 
-pub later-position : (m : List ℕ) → wellFormed m ≡ true → (place : ℕ) (text : List ℕ) → (answerOf (replaced m place text) .number ≡ 0 → ⊥) → place < answerOf (replaced m place text) .first
-    → LaterBarred (decode m) place text (answerOf (replaced m place text))
-later-position = replaced-later
+pub later-position : (m : List ℕ) → wellFormed m ≡ true → (place : ℕ) (text : List ℕ) → (answerOf (put m place text) .number ≡ 0 → ⊥) → place < answerOf (put m place text) .first
+    → LaterBarred (decode m) place text (answerOf (put m place text))
+later-position = put-later
 
 -- ---- THE LETTER: 7 is a fault of the text that is handed in, and it stands where a string of that text breaks its rule for names: at the first
 -- character such that no string that keeps the rule begins with the characters up to and with it, or at the closing quote (`Told`, `BreaksAt`)
 
-pub add-tells : (m text : List ℕ) → answerOf (added m text) .number ≡ 7 → (answerOf (added m text) .first ≡ length (decode m)) × Told text (answerOf (added m text) .second)
-add-tells = addition-tells
-
-pub replace-tells : (m : List ℕ) (place : ℕ) (text : List ℕ) → answerOf (replaced m place text) .number ≡ 7
-    → (answerOf (replaced m place text) .first ≡ place) × Told text (answerOf (replaced m place text) .second)
-replace-tells m place text = put-tells text place m
+pub seven-tells : (m : List ℕ) (place : ℕ) (text : List ℕ) → answerOf (put m place text) .number ≡ 7
+    → (answerOf (put m place text) .first ≡ place) × Told text (answerOf (put m place text) .second)
+seven-tells = put-tells
 
 -- there is one such place for a string
 pub told-once : (t : List ℕ) (r : Rule) (quote p q : ℕ) → byteAt t quote ≡ 34 → BreaksAt (keepsOf r) t quote p → BreaksAt (keepsOf r) t quote q → p ≡ q

@@ -7,8 +7,8 @@ use Prim.Native.Nat.{ℕ, _<_, _≤_}
 use native.Mathlib.Omega.{arith}
 use native.Mathlib.Decide.{decLt}
 use lib.Dec.{eqb}
-use lib.ListN.{length, length-replicate}
-use borrow.Author.Tests.{le-ltb, eq-eqb, ne-eqb, eqb-true}
+use lib.ListN.{length, length-append, length-replicate}
+use borrow.Author.Tests.{lt-ltb, eq-eqb, ne-eqb, eqb-true}
 use Rattle.answer.specs.Limits.{noCounts}
 use Rattle.answer.specs.declared.counts.Counts.{Counts}
 use Rattle.answer.specs.declared.refusal.Why.the-variants.{NoSuchPlace}
@@ -23,11 +23,11 @@ use Rattle.row.specs.Memory.{setCounts}
 use Rattle.row.proofs.Laws.{decode-encode}
 use Rattle.resolve.specs.WellFormed.{Good, wellFormed}
 use Rattle.resolve.proofs.Laws.{exact, encode-good, good-within, none-good}
-use Rattle.set.specs.Lists.{Result, becomes, refuses, refuse, next, addTo, replaceIn}
-use Rattle.set.specs.Calls.{answerOf, memoryOf, onSet, opened, added, replaced}
-use Rattle.demands.specs.Building.{Outcome, outcome, isDone, emptySet, addEach, edit, ifDone, Built, opens, adds, replaces}
-use Rattle.demands.proofs.Steps.{becomes-inj, not-both, must-hold, add-good, replace-good}
-use Rattle.demands.proofs.Editing.{addAll, run-append, run-one, run-done, run-good, reads-length, edit-law}
+use Rattle.set.specs.Lists.{Result, becomes, refuses, refuse, next, putIn}
+use Rattle.set.specs.Calls.{answerOf, memoryOf, onSet, opened, put}
+use Rattle.demands.specs.Building.{Outcome, outcome, isDone, emptySet, putEach, edit, ifDone, Built, opens, puts}
+use Rattle.demands.proofs.Steps.{becomes-inj, not-both, must-hold, edit-last, last-done, put-good}
+use Rattle.demands.proofs.Editing.{putAll, run-done, run-good, reads-length, edit-law}
 
 -- ---- what an answer tells
 
@@ -56,13 +56,9 @@ module _ (m : List ℕ) (wf : wellFormed m ≡ true) where
   unfolding onSet
   on-formed place change = rw wf
 
-  pub added-formed : (t : List ℕ) → added m t ≡ addTo (decode m) t
-  unfolding added
-  added-formed t = on-formed 0 (λ ds. addTo ds t)
-
-  pub replaced-formed : (place : ℕ) (t : List ℕ) → replaced m place t ≡ replaceIn (decode m) place t
-  unfolding replaced
-  replaced-formed place t = on-formed place (λ ds. replaceIn ds place t)
+  pub put-formed : (place : ℕ) (t : List ℕ) → put m place t ≡ putIn (decode m) place t
+  unfolding put
+  put-formed place t = on-formed place (λ ds. putIn ds place t)
 
   -- what a call keeps of well-formed memory
   kept-by : (x : Result) → ((d : List (List Row)) → x ≡ becomes d → Good d) → wellFormed (memoryOf m x) ≡ true
@@ -70,11 +66,8 @@ module _ (m : List ℕ) (wf : wellFormed m ≡ true) where
   kept-by (becomes d) h = encode-good d (h d refl)
   kept-by (refuses r) h = wf
 
-  pub added-kept : (t : List ℕ) → wellFormed (memoryOf m (added m t)) ≡ true
-  added-kept t = kept-by (added m t) (λ d e. add-good (decode m) t d (exact m wf .1) (sym (added-formed t) ∙ e))
-
-  pub replaced-kept : (place : ℕ) (t : List ℕ) → wellFormed (memoryOf m (replaced m place t)) ≡ true
-  replaced-kept place t = kept-by (replaced m place t) (λ d e. replace-good (decode m) place t d (exact m wf .1) (sym (replaced-formed place t) ∙ e))
+  pub put-kept : (place : ℕ) (t : List ℕ) → wellFormed (memoryOf m (put m place t)) ≡ true
+  put-kept place t = kept-by (put m place t) (λ d e. put-good (decode m) place t d (exact m wf .1) (sym (put-formed place t) ∙ e))
 
 -- ---- open
 
@@ -107,18 +100,15 @@ module _ (ds : List (List Row)) (g : Good ds) where
   decoded : decode (encode ds) ≡ ds
   decoded = decode-encode ds (good-within ds g)
 
-  pub added-encoded : (t : List ℕ) → added (encode ds) t ≡ addTo ds t
-  added-encoded t = added-formed (encode ds) (encode-good ds g) t ∙ ap (λ (x : List (List Row)). addTo x t) decoded
-
-  pub replaced-encoded : (place : ℕ) (t : List ℕ) → replaced (encode ds) place t ≡ replaceIn ds place t
-  replaced-encoded place t = replaced-formed (encode ds) (encode-good ds g) place t ∙ ap (λ (x : List (List Row)). replaceIn x place t) decoded
+  pub put-encoded : (place : ℕ) (t : List ℕ) → put (encode ds) place t ≡ putIn ds place t
+  put-encoded place t = put-formed (encode ds) (encode-good ds g) place t ∙ ap (λ (x : List (List Row)). putIn x place t) decoded
 
 -- ---- what built memory holds
 
 pub record Holds (m : List ℕ) (ts : List (List ℕ)) : Type 0 where
   pub set : List (List Row)
   pub bytes : m ≡ encode set
-  pub run : addAll [] ts ≡ becomes set
+  pub run : putAll [] ts ≡ becomes set
 
 module _ {m : List ℕ} {ts : List (List ℕ)} (h : Holds m ts) where
   pub held-good : Good (h .set)
@@ -130,112 +120,118 @@ module _ {m : List ℕ} {ts : List (List ℕ)} (h : Holds m ts) where
   pub held-length : length (h .set) ≡ length ts
   held-length = let r = run-done [] ts (h .set) (h .run) in ap length (r .is) ∙ reads-length (r .reads)
 
-  pub held-added : (t : List ℕ) → added m t ≡ addAll [] (ts ++ (t ∷ []))
-  held-added t =
-      ap (λ (x : List ℕ). added x t) (h .bytes) ∙ added-encoded (h .set) held-good t ∙ sym (run-one (h .set) t)
-      ∙ sym (run-append [] ts (t ∷ []) ∙ ap (λ (x : Result). next x (λ d. addAll d (t ∷ []))) (h .run))
+  pub held-put : (place : ℕ) (t : List ℕ) → put m place t ≡ putIn (h .set) place t
+  held-put place t = ap (λ (x : List ℕ). put x place t) (h .bytes) ∙ put-encoded (h .set) held-good place t
 
-  pub held-replaced : (place : ℕ) (t : List ℕ) → replaced m place t ≡ replaceIn (h .set) place t
-  held-replaced place t = ap (λ (x : List ℕ). replaced x place t) (h .bytes) ∙ replaced-encoded (h .set) held-good place t
+  pub held-edited : (place : ℕ) (t : List ℕ) → place ≤ length ts → put m place t ≡ putAll [] (edit ts place t)
+  held-edited place t l = held-put place t ∙ edit-law ts (h .set) place t (h .run) l
 
-  pub held-edited : (place : ℕ) (t : List ℕ) → place < length ts → replaced m place t ≡ addAll [] (edit ts place t)
-  held-edited place t l = held-replaced place t ∙ edit-law ts (h .set) place t (h .run) l
+  pub held-none : (place : ℕ) (t : List ℕ) → length ts < place → put m place t ≡ refuse NoSuchPlace place 0
+  unfolding putIn
+  held-none place t l = held-put place t ∙ rw (lt-ltb (length (h .set)) place (omega (arith, held-length)))
 
-  pub held-none : (place : ℕ) (t : List ℕ) → length ts ≤ place → replaced m place t ≡ refuse NoSuchPlace place 0
-  unfolding replaceIn
-  held-none place t l = held-replaced place t ∙ rw (le-ltb place (length (h .set)) (omega (arith, held-length)))
-
-  held-place : (place : ℕ) (t : List ℕ) (d : List (List Row)) → replaced m place t ≡ becomes d → place < length ts
-  held-place place t d e = elim (decLt place (length ts)) [ yes l ↦ l | no z ↦ not-both (sym e ∙ held-none place t (omega arith)) ]
+  held-place : (place : ℕ) (t : List ℕ) (d : List (List Row)) → put m place t ≡ becomes d → place ≤ length ts
+  held-place place t d e = elim (decLt (length ts) place) [ yes l ↦ not-both (sym e ∙ held-none place t l) | no z ↦ omega arith ]
 
   -- a call that is refused leaves what is held, and one that is accepted changes it
-  held-after : (x : Result) (us : List (List ℕ)) → ((d : List (List Row)) → x ≡ becomes d → addAll [] us ≡ becomes d) → Holds (memoryOf m x) (ifDone (answerOf x) us ts)
+  held-after : (x : Result) (us : List (List ℕ)) → ((d : List (List Row)) → x ≡ becomes d → putAll [] us ≡ becomes d) → Holds (memoryOf m x) (ifDone (answerOf x) us ts)
   unfolding memoryOf answerOf ifDone
   held-after (becomes d) us f = record { set = d; bytes = refl; run = f d refl }
   held-after (refuses r) us f = rw (not-done r) h
 
-  pub after-add : (t : List ℕ) → Holds (memoryOf m (added m t)) (ifDone (answerOf (added m t)) (ts ++ (t ∷ [])) ts)
-  after-add t = held-after (added m t) (ts ++ (t ∷ [])) (λ d e. sym (held-added t) ∙ e)
-
-  pub after-replace : (place : ℕ) (t : List ℕ) → Holds (memoryOf m (replaced m place t)) (ifDone (answerOf (replaced m place t)) (edit ts place t) ts)
-  after-replace place t = held-after (replaced m place t) (edit ts place t) (λ d e. sym (held-edited place t (held-place place t d e)) ∙ e)
+  pub after-put : (place : ℕ) (t : List ℕ) → Holds (memoryOf m (put m place t)) (ifDone (answerOf (put m place t)) (edit ts place t) ts)
+  after-put place t = held-after (put m place t) (edit ts place t) (λ d e. sym (held-edited place t (held-place place t d e)) ∙ e)
 
 pub built-holds : {m : List ℕ} {ts : List (List ℕ)} → Built m ts → Holds m ts
-unfolding addAll memoryOf
+unfolding putAll memoryOf
 built-holds (opens m e) = record { set = []; bytes = ap (memoryOf m) (opened-is m e); run = refl }
-built-holds (adds b t) = after-add (built-holds b) t
-built-holds (replaces b place t) = after-replace (built-holds b) place t
+built-holds (puts b place t) = after-put (built-holds b) place t
 
--- ---- texts added in turn, on memory
+-- ---- texts put in turn, on memory
 
 record Each (x : Result) (o : Outcome) : Type 0 where
   answer : answerOf x ≡ o .answer
   memory : (d : List (List Row)) → x ≡ becomes d → encode d ≡ o .memory
 
 -- a refusal ends it
-stays : (ts : List (List ℕ)) (t m : List ℕ) (r : Refusal) → addEach (outcome m (refuses r)) (t ∷ ts) ≡ outcome m (refuses r)
-unfolding addEach outcome answerOf memoryOf
-stays ts t m r = ap (λ (b : Bool). cond b (addEach (outcome m (added m t)) ts) (outcome m (refuses r))) (not-done r)
+stays : (ts : List (List ℕ)) (t m : List ℕ) (r : Refusal) → putEach (outcome m (refuses r)) (t ∷ ts) ≡ outcome m (refuses r)
+unfolding putEach outcome answerOf memoryOf
+stays ts t m r = ap (λ (b : Bool). cond b (putEach (outcome m (put m (r .place) t)) ts) (outcome m (refuses r))) (not-done r)
 
-each-added : (ts : List (List ℕ)) (m : List ℕ) (x : Result) → ((d : List (List Row)) → x ≡ becomes d → Good d) → Each (next x (λ d. addAll d ts)) (addEach (outcome m x) ts)
-unfolding addEach addAll outcome answerOf memoryOf
-each-added [] m (becomes d) g = record { answer = refl; memory = λ y e. ap encode (sym (becomes-inj e)) }
-each-added [] m (refuses r) g = record { answer = refl; memory = λ d e. not-both (sym e) }
-each-added (t ∷ ts) m (becomes d) g =
-    let a : added (encode d) t ≡ addTo d t = added-encoded d (g d refl) t in
-    rw a (each-added ts (encode d) (addTo d t) (λ y e. add-good d t y (g d refl) e))
-each-added (t ∷ ts) m (refuses r) g = subst (Each (refuses r)) (sym (stays ts t m r)) (record { answer = refl; memory = λ d e. not-both (sym e) })
+each-put : (ts : List (List ℕ)) (m : List ℕ) (x : Result) → ((d : List (List Row)) → x ≡ becomes d → Good d) → Each (next x (λ d. putAll d ts)) (putEach (outcome m x) ts)
+unfolding putEach putAll outcome answerOf memoryOf setCounts
+each-put [] m (becomes d) g = record { answer = refl; memory = λ y e. ap encode (sym (becomes-inj e)) }
+each-put [] m (refuses r) g = record { answer = refl; memory = λ d e. not-both (sym e) }
+each-put (t ∷ ts) m (becomes d) g =
+    let a : put (encode d) (length d) t ≡ putIn d (length d) t = put-encoded d (g d refl) (length d) t in
+    rw a (each-put ts (encode d) (putIn d (length d) t) (λ y e. put-good d (length d) t y (g d refl) e))
+each-put (t ∷ ts) m (refuses r) g = subst (Each (refuses r)) (sym (stays ts t m r)) (record { answer = refl; memory = λ d e. not-both (sym e) })
 
-each-run : (ts : List (List ℕ)) → Each (addAll [] ts) (addEach emptySet ts)
-each-run ts = rw (← empty-outcome []) (each-added ts [] (becomes []) (λ d e. rw (← becomes-inj e) none-good))
+each-run : (ts : List (List ℕ)) → Each (putAll [] ts) (putEach emptySet ts)
+each-run ts = rw (← empty-outcome []) (each-put ts [] (becomes []) (λ d e. rw (← becomes-inj e) none-good))
 
--- ---- a replacement against the edited list
+-- ---- a put against the edited list
 
 module _ {m : List ℕ} {ts : List (List ℕ)} (h : Holds m ts) where
-  pub held-answer : (place : ℕ) (t : List ℕ) → place < length ts → answerOf (replaced m place t) ≡ addEach emptySet (edit ts place t) .answer
+  pub held-answer : (place : ℕ) (t : List ℕ) → place ≤ length ts → answerOf (put m place t) ≡ putEach emptySet (edit ts place t) .answer
   held-answer place t l = ap answerOf (held-edited h place t l) ∙ each-run (edit ts place t) .answer
 
-  pub held-memory : (place : ℕ) (t : List ℕ) → place < length ts → answerOf (replaced m place t) .number ≡ 0 → memoryOf m (replaced m place t) ≡ addEach emptySet (edit ts place t) .memory
+  pub held-memory : (place : ℕ) (t : List ℕ) → place ≤ length ts → answerOf (put m place t) .number ≡ 0 → memoryOf m (put m place t) ≡ putEach emptySet (edit ts place t) .memory
   unfolding memoryOf
   held-memory place t l e =
-      let d = done-becomes (replaced m place t) e in
+      let d = done-becomes (put m place t) e in
       ap (memoryOf m) (d .1) ∙ each-run (edit ts place t) .memory (d .0) (sym (held-edited h place t l) ∙ d .1)
 
-  pub held-nowhere : (place : ℕ) (t : List ℕ) → length ts ≤ place → answerOf (replaced m place t) ≡ refused 21 place 0
+  pub held-nowhere : (place : ℕ) (t : List ℕ) → length ts < place → answerOf (put m place t) ≡ refused 21 place 0
   unfolding answerOf
   held-nowhere place t l = ap answerOf (held-none h place t l)
 
-  -- the set is what adding its texts gives
-  pub held-is : (c : Counts) × (addEach emptySet ts ≡ record { answer = ofCounts c; memory = m })
+  -- the set is what putting its texts one by one gives
+  pub held-is : (c : Counts) × (putEach emptySet ts ≡ record { answer = ofCounts c; memory = m })
   unfolding answerOf
   held-is =
       let z = each-run ts in
-      let a : addEach emptySet ts .answer ≡ ofCounts (setCounts (h .set)) = sym (z .answer) ∙ ap answerOf (h .run) in
-      let b : addEach emptySet ts .memory ≡ m = sym (z .memory (h .set) (h .run)) ∙ sym (h .bytes) in
+      let a : putEach emptySet ts .answer ≡ ofCounts (setCounts (h .set)) = sym (z .answer) ∙ ap answerOf (h .run) in
+      let b : putEach emptySet ts .memory ≡ m = sym (z .memory (h .set) (h .run)) ∙ sym (h .bytes) in
       (setCounts (h .set), λ i. record { answer = a i; memory = b i })
 
--- ---- what adding texts one by one gives is built
+-- ---- what putting texts one by one gives is built
 
-no-done : {A : Type 0} (ts : List (List ℕ)) (m : List ℕ) (f : Refusal) → addEach (outcome m (refuses f)) ts .answer .number ≡ 0 → A
-unfolding addEach outcome answerOf
+no-done : {A : Type 0} (ts : List (List ℕ)) (m : List ℕ) (f : Refusal) → putEach (outcome m (refuses f)) ts .answer .number ≡ 0 → A
+unfolding putEach outcome answerOf
 no-done [] m f e = absurd (never-zero (f .why) e)
 no-done (t ∷ ts) m f e = absurd (never-zero (f .why) (rw (not-done f) at e))
 
-one-more : (m : List ℕ) (x : Result) (ts us : List (List ℕ)) (t : List ℕ) → Built (memoryOf m x) (ifDone (answerOf x) (us ++ (t ∷ [])) us) → addEach (outcome m x) ts .answer .number ≡ 0
-    → ((vs : List (List ℕ)) → Built (memoryOf m x) vs → Built (addEach (outcome m x) ts .memory) (vs ++ ts)) → Built (addEach (outcome m x) ts .memory) (us ++ (t ∷ ts))
+-- x is what the texts us gave
+record From (x : Result) (us : List (List ℕ)) : Type 0 where
+  good : (d : List (List Row)) → x ≡ becomes d → Good d
+  long : (d : List (List Row)) → x ≡ becomes d → length d ≡ length us
+
+from-more : (d : List (List Row)) (us : List (List ℕ)) (t : List ℕ) → Good d → length d ≡ length us → From (put (encode d) (length d) t) (us ++ (t ∷ []))
+from-more d us t g n = record {
+  good = λ y e. put-good d (length d) t y g (sym (put-encoded d g (length d) t) ∙ e);
+  long = λ y e. (let a = last-done d t y (sym (put-encoded d g (length d) t) ∙ e) in ap length (a .is) ∙ length-append d (a .rows ∷ []) ∙ omega (arith, length-append us (t ∷ [])));
+}
+
+one-more : (m : List ℕ) (x : Result) (ts us : List (List ℕ)) (t : List ℕ) → Built (memoryOf m x) (ifDone (answerOf x) (us ++ (t ∷ [])) us) → putEach (outcome m x) ts .answer .number ≡ 0
+    → (Built (memoryOf m x) (us ++ (t ∷ [])) → Built (putEach (outcome m x) ts .memory) ((us ++ (t ∷ [])) ++ ts)) → Built (putEach (outcome m x) ts .memory) (us ++ (t ∷ ts))
 unfolding ifDone answerOf
-one-more m (becomes d) ts us t b e more = rw (← append-assoc us (t ∷ []) ts) (more (us ++ (t ∷ [])) b)
+one-more m (becomes d) ts us t b e more = rw (← append-assoc us (t ∷ []) ts) (more b)
 one-more m (refuses f) ts us t b e more = no-done ts m f e
 
-each-built : (ts us : List (List ℕ)) (m : List ℕ) (x : Result) → Built (memoryOf m x) us → addEach (outcome m x) ts .answer .number ≡ 0 → Built (addEach (outcome m x) ts .memory) (us ++ ts)
-unfolding addEach outcome answerOf memoryOf
-each-built [] us m x b e = rw (append-nil us) b
-each-built (t ∷ ts) us m (becomes d) b e = one-more (encode d) (added (encode d) t) ts us t (adds b t) e (λ vs n. each-built ts vs (encode d) (added (encode d) t) n e)
-each-built (t ∷ ts) us m (refuses f) b e = no-done (t ∷ ts) m f e
+each-built : (ts us : List (List ℕ)) (m : List ℕ) (x : Result) → From x us → Built (memoryOf m x) us → putEach (outcome m x) ts .answer .number ≡ 0 → Built (putEach (outcome m x) ts .memory) (us ++ ts)
+unfolding putEach outcome answerOf memoryOf setCounts
+each-built [] us m x w b e = rw (append-nil us) b
+each-built (t ∷ ts) us m (becomes d) w b e =
+    let n : length d ≡ length us = w .long d refl in
+    let l : edit us (length d) t ≡ us ++ (t ∷ []) = ap (λ (i : ℕ). edit us i t) n ∙ edit-last us t in
+    one-more (encode d) (put (encode d) (length d) t) ts us t (rw l at (puts b (length d) t)) e
+    (λ c. each-built ts (us ++ (t ∷ [])) (encode d) (put (encode d) (length d) t) (from-more d us t (w .good d refl) n) c e)
+each-built (t ∷ ts) us m (refuses f) w b e = no-done (t ∷ ts) m f e
 
-pub accepted-built : (ts : List (List ℕ)) → addEach emptySet ts .answer .number ≡ 0 → Built (addEach emptySet ts .memory) ts
+pub accepted-built : (ts : List (List ℕ)) → putEach emptySet ts .answer .number ≡ 0 → Built (putEach emptySet ts .memory) ts
 unfolding memoryOf
-accepted-built ts e = rw (← o) (each-built ts [] m (becomes []) (rw (opened-is m n) at (opens m n)) (rw (← o) at e))
+accepted-built ts e = rw (← o) (each-built ts [] m (becomes []) w (rw (opened-is m n) at (opens m n)) (rw (← o) at e))
   where
     m : List ℕ
     m = zeros layoutLength
@@ -245,3 +241,6 @@ accepted-built ts e = rw (← o) (each-built ts [] m (becomes []) (rw (opened-is
 
     o : outcome m (becomes []) ≡ emptySet
     o = empty-outcome m
+
+    w : From (becomes []) []
+    w = record { good = λ d e. rw (← becomes-inj e) none-good; long = λ d e. ap length (sym (becomes-inj e)) }

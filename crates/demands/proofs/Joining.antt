@@ -7,7 +7,7 @@ use Prim.Native.Nat.{ℕ, _+_}
 use native.Mathlib.Omega.{arith}
 use lib.Dec.{ltb}
 use lib.ListN.{length}
-use borrow.Author.Tests.{lt-ltb, le-ltb, ltb-true, ltb-false}
+use borrow.Author.Tests.{le-ltb, ltb-true, ltb-false}
 use Rattle.answer.specs.Places.{placed}
 use Rattle.answer.specs.declared.refusal.Why.{Why}
 use Rattle.answer.specs.declared.refusal.Why.the-variants.{TooManyRows, TooManyStringBytes, DefinedAlready, ReferenceUnknown}
@@ -15,7 +15,7 @@ use Rattle.answer.specs.declared.refusal.Fault.{Fault}
 use Rattle.answer.specs.declared.refusal.Refusal.{Refusal}
 use Rattle.ground.specs.Bytes.{same}
 use Rattle.ground.proofs.Laws.{never, and-true, same-true, same-refl}
-use Rattle.row.specs.Layout.{declarationLimit, rowLimit, stringLimit}
+use Rattle.row.specs.Layout.{rowLimit, stringLimit}
 use Rattle.row.specs.Rows.{Row, texts}
 use Rattle.row.specs.Sets.{flat}
 use Rattle.row.specs.declared.kind.Kind.the-variants.{Reference}
@@ -24,9 +24,9 @@ use Rattle.resolve.specs.Rules.{some}
 use Rattle.resolve.specs.Resolve.{defines, isDefined, faulty, faultOf, orElse, faultIn}
 use Rattle.resolve.specs.declared.Resolution.{Resolution}
 use Rattle.resolve.specs.declared.Resolution.the-variants.{Resolved, Faulty}
-use Rattle.set.specs.Lists.{becomes, refuses, refuse, onResolved, append, addTo}
+use Rattle.set.specs.Lists.{becomes, refuses, refuse, onResolved, append, putIn}
 use Rattle.demands.specs.Building.{Defines, here, later, Clean, Joins, Broken, twice, unknown, FirstBroken, Barred, many-rows, many-bytes, bad-name}
-use Rattle.demands.proofs.Steps.{not-both, append-done, add-done}
+use Rattle.demands.proofs.Steps.{not-both, append-done, last-is, last-done}
 
 -- ---- what is defined
 
@@ -149,15 +149,15 @@ faulty-first earlier (r ∷ rows) f e = go (faultOf earlier r) refl (faulty-firs
 
 -- ---- one declaration more
 
-pub join-only : (ds : List (List Row)) (t : List ℕ) (d : List (List Row)) → addTo ds t ≡ becomes d → (rows : List Row) × Joins ds t rows × (d ≡ ds ++ (rows ∷ []))
+pub join-only : (ds : List (List Row)) (t : List ℕ) (d : List (List Row)) → putIn ds (length ds) t ≡ becomes d → (rows : List Row) × Joins ds t rows × (d ≡ ds ++ (rows ∷ []))
 join-only ds t d e =
-    let a = add-done ds t d e in
+    let a = last-done ds t d e in
     let b = append-done ds (a .rows) d (a .then) in
     (a .rows, record { few = a .few; reads = a .reads; fit = b .fit; room = b .room; clean = resolved-clean (flat ds) (a .rows) (b .resolved) }, a .is)
 
-pub join-if : (ds : List (List Row)) (t : List ℕ) (rows : List Row) → Joins ds t rows → addTo ds t ≡ becomes (ds ++ (rows ∷ []))
-unfolding addTo append
-join-if ds t rows j = rw (lt-ltb _ declarationLimit (j .few), j .reads, le-ltb rowLimit _ (j .fit), le-ltb stringLimit _ (j .room), clean-resolved (flat ds) rows (j .clean))
+pub join-if : (ds : List (List Row)) (t : List ℕ) (rows : List Row) → Joins ds t rows → putIn ds (length ds) t ≡ becomes (ds ++ (rows ∷ []))
+unfolding append
+join-if ds t rows j = last-is ds t (j .few) ∙ rw (j .reads, le-ltb rowLimit _ (j .fit), le-ltb stringLimit _ (j .room), clean-resolved (flat ds) rows (j .clean))
 
 refused-is : {r s : Refusal} → refuses r ≡ refuses s → r ≡ s
 refused-is e = cc

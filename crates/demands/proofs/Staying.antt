@@ -3,17 +3,20 @@
 use mathlib.Core.Path.{_≡_, refl, sym, ap, subst, _∙_}
 use mathlib.Core.Bool.{Bool, true, false, cond}
 use mathlib.Core.List.{List, [], _∷_, _++_, append-assoc, append-nil}
-use Prim.Native.Nat.{ℕ, _+_, _<_}
+use Prim.Native.Nat.{ℕ, _+_, _<_, _≤_}
+use native.Mathlib.Nat.{le-refl}
 use native.Mathlib.Omega.{arith}
 use lib.Dec.{ltb}
-use lib.ListN.{length, take, drop, length-append, length-take, take-append-drop}
+use lib.ListN.{length, take, drop, length-append, length-take, length-drop, take-append-drop}
 use lib.Seq.{take-at}
-use borrow.Author.Tests.{ltb-true}
+use borrow.Author.Tests.{ltb-true, ltb-false}
 use Rattle.answer.specs.Places.{placed}
-use Rattle.answer.specs.declared.refusal.Why.the-variants.{NoSuchPlace}
+use Rattle.answer.specs.declared.refusal.Why.{Why}
+use Rattle.answer.specs.declared.refusal.Why.the-variants.{NoSuchPlace, TooManyDeclarations}
 use Rattle.answer.specs.declared.refusal.Refusal.{Refusal}
 use Rattle.answer.specs.declared.numbers.Numbers.{Numbers}
 use Rattle.answer.specs.Answers.{ofRefusal}
+use Rattle.row.specs.Layout.{declarationLimit}
 use Rattle.row.specs.Rows.{Row}
 use Rattle.row.specs.Sets.{encode, decode, Within}
 use Rattle.row.proofs.Laws.{same-sizes, same-rows, same-texts}
@@ -21,11 +24,11 @@ use Rattle.resolve.specs.WellFormed.{Good, wellFormed}
 use Rattle.resolve.proofs.Laws.{exact, good-within}
 use Rattle.schema.specs.Out.{Out, refused, read}
 use Rattle.schema.specs.Schema.{declared}
-use Rattle.set.specs.Lists.{Result, becomes, refuses, refuse, next, onRows, append, appendAll, addTo, replaceIn}
-use Rattle.set.specs.Calls.{answerOf, memoryOf, added, replaced}
+use Rattle.set.specs.Lists.{Result, becomes, refuses, refuse, next, onRows, append, appendAll, putIn}
+use Rattle.set.specs.Calls.{answerOf, memoryOf, put}
 use Rattle.demands.specs.Building.{edit, At, first, behind, SameFront, LaterBarred}
-use Rattle.demands.proofs.Steps.{not-both, append-done, add-done, replace-done, add-good, replace-good}
-use Rattle.demands.proofs.Holding.{done-becomes, refused-refuses, added-formed, replaced-formed}
+use Rattle.demands.proofs.Steps.{not-both, append-done, put-done, put-good}
+use Rattle.demands.proofs.Holding.{done-becomes, refused-refuses, put-formed}
 use Rattle.demands.proofs.Joining.{append-barred}
 
 -- ---- bytes
@@ -38,24 +41,15 @@ front-of : (a b c d e : List (List Row)) (m n : List ℕ) → d ≡ a ++ b → e
 front-of a b c d e m n p q g h j k = rw (j, k, p, q) (same-front a b c (rw p at (good-within d g)) (rw q at (good-within e h)))
 
 module _ (m : List ℕ) (wf : wellFormed m ≡ true) where
-  pub replaced-front : (place : ℕ) (t : List ℕ) → answerOf (replaced m place t) .number ≡ 0 → SameFront (take place (decode m)) (memoryOf m (replaced m place t)) m
+  pub put-front : (place : ℕ) (t : List ℕ) → answerOf (put m place t) .number ≡ 0 → SameFront (take place (decode m)) (memoryOf m (put m place t)) m
   unfolding memoryOf edit
-  replaced-front place t e =
-      let d = done-becomes (replaced m place t) e in
-      let f : replaceIn (decode m) place t ≡ becomes (d .0) = sym (replaced-formed m wf place t) ∙ d .1 in
-      let r = replace-done (decode m) place t (d .0) f in
+  put-front place t e =
+      let d = done-becomes (put m place t) e in
+      let f : putIn (decode m) place t ≡ becomes (d .0) = sym (put-formed m wf place t) ∙ d .1 in
+      let r = put-done (decode m) place t (d .0) f in
       let x = exact m wf in
       front-of (take place (decode m)) (r .rows ∷ drop (place + 1) (decode m)) (drop place (decode m)) (d .0) (decode m) _ _
-      (r .is) (sym (take-append-drop place (decode m))) (replace-good (decode m) place t (d .0) (x .1) f) (x .1) (ap (memoryOf m) (d .1)) (x .0)
-
-  pub added-front : (t : List ℕ) → answerOf (added m t) .number ≡ 0 → SameFront (decode m) (memoryOf m (added m t)) m
-  unfolding memoryOf
-  added-front t e =
-      let d = done-becomes (added m t) e in
-      let f : addTo (decode m) t ≡ becomes (d .0) = sym (added-formed m wf t) ∙ d .1 in
-      let r = add-done (decode m) t (d .0) f in
-      let x = exact m wf in
-      front-of (decode m) (r .rows ∷ []) [] (d .0) (decode m) _ _ (r .is) (sym (append-nil (decode m))) (add-good (decode m) t (d .0) (x .1) f) (x .1) (ap (memoryOf m) (d .1)) (x .0)
+      (r .is) (sym (take-append-drop place (decode m))) (put-good (decode m) place t (d .0) (x .1) f) (x .1) (ap (memoryOf m) (d .1)) (x .0)
 
 -- ---- places in a list
 
@@ -95,7 +89,7 @@ appends-stop a (rows ∷ b) r e = go (append a rows) refl (λ d. appends-stop d 
 
 -- from the place on, where the place itself is not at fault
 module _ (ds : List (List Row)) (place : ℕ) (t : List ℕ) (r : Refusal) (past : place < r .place) where
-  module _ (new : List Row) (l : place < length ds) (h : declared t ≡ read new) (rows : List Row) (rest : List (List Row)) where
+  module _ (new : List Row) (l : place ≤ length ds) (h : declared t ≡ read new) (rows : List Row) (rest : List (List Row)) where
     stopped-later : (front : List (List Row)) → new ∷ drop (place + 1) ds ≡ front ++ (rows ∷ rest) → append (take place ds ++ front) rows ≡ refuses r → LaterBarred ds place t (ofRefusal r)
     unfolding edit
     stopped-later front p e =
@@ -120,32 +114,32 @@ module _ (ds : List (List Row)) (place : ℕ) (t : List ℕ) (r : Refusal) (past
         there (x ∷ front) p k =
             let q : drop (place + 1) ds ≡ front ++ (rows ∷ rest) = cc in
             let s : ds ≡ (take (place + 1) ds ++ front) ++ (rows ∷ rest) = sym (take-append-drop (place + 1) ds) ∙ ap (λ (y : List (List Row)). take (place + 1) ds ++ y) q ∙ sym (append-assoc (take (place + 1) ds) front (rows ∷ rest)) in
-            at-split ds (take (place + 1) ds ++ front) rows rest (r .place) s (omega (arith, length-append (take (place + 1) ds) front, length-take (place + 1) ds))
+            at-split ds (take (place + 1) ds ++ front) rows rest (r .place) s (omega (arith, length-append (take (place + 1) ds) front, length-take (place + 1) ds, length-drop (place + 1) ds, ap length q, length-append front (rows ∷ rest)))
 
-  later-on : (b : Bool) (o : Out) → ltb place (length ds) ≡ b → declared t ≡ o
-      → cond b (onRows o place (λ rows. appendAll (take place ds) (rows ∷ drop (place + 1) ds))) (refuse NoSuchPlace place 0) ≡ refuses r → LaterBarred ds place t (ofRefusal r)
-  later-on false o p q e = let k : place ≡ r .place = here e in absurd (omega arith)
-    where
-      here : refuse NoSuchPlace place 0 ≡ refuses r → place ≡ r .place
-      here z = let y : record { why = NoSuchPlace; place = place; at = 0 } ≡ r = cc in ap (λ (x : Refusal). x .place) y
-  later-on true (refused f) p q e = let k : place ≡ r .place = here e in absurd (omega arith)
-    where
-      here : refuses (placed f place) ≡ refuses r → place ≡ r .place
-      here z = let y : placed f place ≡ r = cc in ap (λ (x : Refusal). x .place) y
-  later-on true (read new) p q e =
+  -- a refusal at a place that is not behind it
+  not-past : {A : Type 0} (w : Why) (k at : ℕ) → k ≤ place → refuse w k at ≡ refuses r → A
+  not-past w k at l e = let y : record { why = w; place = k; at = at } ≡ r = cc in absurd (omega (arith, ap (λ (x : Refusal). x .place) y))
+
+  later-on : (a b : Bool) (o : Out) → ltb (length ds) place ≡ a → ltb declarationLimit (place + 1) ≡ b → declared t ≡ o
+      → cond a (refuse NoSuchPlace place 0) (cond b (refuse TooManyDeclarations declarationLimit 0) (onRows o place (λ rows. appendAll (take place ds) (rows ∷ drop (place + 1) ds)))) ≡ refuses r
+      → LaterBarred ds place t (ofRefusal r)
+  later-on true b o p c q e = not-past NoSuchPlace place 0 (le-refl _) e
+  later-on false true o p c q e = not-past TooManyDeclarations declarationLimit 0 (omega (arith, ltb-true declarationLimit (place + 1) c)) e
+  later-on false false (refused f) p c q e = not-past (f .why) place (f .at) (le-refl _) e
+  later-on false false (read new) p c q e =
       let z = appends-stop (take place ds) (new ∷ drop (place + 1) ds) r e in
-      stopped-later new (ltb-true _ _ p) q (z .rows) (z .rest) (z .front) (z .parts) (z .refuse-it)
+      stopped-later new (ltb-false _ _ p) q (z .rows) (z .rest) (z .front) (z .parts) (z .refuse-it)
 
-  pub replace-later : replaceIn ds place t ≡ refuses r → LaterBarred ds place t (ofRefusal r)
-  unfolding replaceIn
-  replace-later e = later-on (ltb place (length ds)) (declared t) refl refl e
+  pub later-barred : putIn ds place t ≡ refuses r → LaterBarred ds place t (ofRefusal r)
+  unfolding putIn
+  later-barred e = later-on (ltb (length ds) place) (ltb declarationLimit (place + 1)) (declared t) refl refl refl e
 
 -- of memory, by the answer's numbers
-pub replaced-later : (m : List ℕ) → wellFormed m ≡ true → (place : ℕ) (t : List ℕ) → (answerOf (replaced m place t) .number ≡ 0 → ⊥) → place < answerOf (replaced m place t) .first
-    → LaterBarred (decode m) place t (answerOf (replaced m place t))
+pub put-later : (m : List ℕ) → wellFormed m ≡ true → (place : ℕ) (t : List ℕ) → (answerOf (put m place t) .number ≡ 0 → ⊥) → place < answerOf (put m place t) .first
+    → LaterBarred (decode m) place t (answerOf (put m place t))
 unfolding answerOf
-replaced-later m wf place t h l =
-    let f = refused-refuses (replaced m place t) h in
-    let e : answerOf (replaced m place t) ≡ ofRefusal (f .0) = ap answerOf (f .1) in
+put-later m wf place t h l =
+    let f = refused-refuses (put m place t) h in
+    let e : answerOf (put m place t) ≡ ofRefusal (f .0) = ap answerOf (f .1) in
     subst (λ (n : Numbers). LaterBarred (decode m) place t n) (sym e)
-    (replace-later (decode m) place t (f .0) (subst (λ (n : Numbers). place < n .first) e l) (sym (replaced-formed m wf place t) ∙ f .1))
+    (later-barred (decode m) place t (f .0) (subst (λ (n : Numbers). place < n .first) e l) (sym (put-formed m wf place t) ∙ f .1))

@@ -5,11 +5,13 @@ use mathlib.Core.Logic.{⊎-elim}
 use mathlib.Core.Bool.{Bool, true, false, cond}
 use mathlib.Core.List.{List, [], _∷_, _++_, append-assoc, append-nil}
 use Prim.Native.Nat.{ℕ, zero, suc, _+_, _<_, _≤_}
+use native.Mathlib.Nat.{le-refl}
 use native.Mathlib.Omega.{arith}
 use lib.Dec.{ltb}
-use lib.ListN.{length, take, drop, length-append, length-take, length-drop}
-use borrow.Author.Tests.{ltb-true, ltb-false}
-use Rattle.answer.specs.declared.refusal.Why.the-variants.{TextTooLong}
+use lib.ListN.{length, take, drop, length-append, length-take, length-drop, drop-of-length-le}
+use lib.Seq.{take-all}
+use borrow.Author.Tests.{lt-ltb, le-ltb, ltb-false}
+use Rattle.answer.specs.declared.refusal.Why.the-variants.{TextTooLong, TooManyDeclarations}
 use Rattle.answer.specs.declared.refusal.Refusal.{Refusal}
 use Rattle.ground.proofs.Laws.{and-true}
 use Rattle.name.specs.Name.{every}
@@ -29,7 +31,8 @@ use Rattle.resolve.proofs.Laws.{cut-good, more-good}
 use Rattle.schema.specs.Out.{Out, refused, read}
 use Rattle.schema.specs.Schema.{rowsOf, onScan, declared}
 use Rattle.kept.proofs.Kept.{kept}
-use Rattle.set.specs.Lists.{Result, becomes, refuses, next, onRows, onResolved, append, appendAll, addTo, replaceIn}
+use Rattle.set.specs.Lists.{Result, becomes, refuses, refuse, next, onRows, onResolved, append, appendAll, putIn}
+use Rattle.set.proofs.Laws.{append-last}
 use Rattle.demands.specs.Building.{edit}
 
 -- ---- one step
@@ -95,33 +98,68 @@ appends-are a (rows ∷ b) d e =
     let p = next-done (append a rows) (λ x. appendAll x b) d e in
     appends-are (p .0) b d (p .2) ∙ ap (λ (x : List (List Row)). x ++ b) (append-done a rows (p .0) (p .1) .is) ∙ append-assoc a (rows ∷ []) b
 
-pub record Added (ds : List (List Row)) (t : List ℕ) (d : List (List Row)) : Type 0 where
+-- ---- a text put at a place
+
+pub record Put (ds : List (List Row)) (place : ℕ) (t : List ℕ) (d : List (List Row)) : Type 0 where
+  pub rows : List Row
+  pub there : place ≤ length ds
+  pub few : place < declarationLimit
+  pub reads : declared t ≡ read rows
+  pub then : appendAll (take place ds) (rows ∷ drop (place + 1) ds) ≡ becomes d
+  pub is : d ≡ edit ds place rows
+
+pub put-done : (ds : List (List Row)) (place : ℕ) (t : List ℕ) (d : List (List Row)) → putIn ds place t ≡ becomes d → Put ds place t d
+unfolding putIn edit
+put-done ds place t d e =
+    let p = must-not (ltb (length ds) place) _ _ d e in
+    let f = must-not (ltb declarationLimit (place + 1)) _ _ d (p .1) in
+    let q = rows-done (declared t) place (λ rows. appendAll (take place ds) (rows ∷ drop (place + 1) ds)) d (f .1) in
+    record {
+      rows = q .0;
+      there = ltb-false _ _ (p .0);
+      few = omega (arith, ltb-false declarationLimit (place + 1) (f .0));
+      reads = q .1;
+      then = q .2;
+      is = appends-are (take place ds) (q .0 ∷ drop (place + 1) ds) d (q .2);
+    }
+
+-- ---- at the count: one declaration more
+
+pub edit-last : {A : Type 0} (xs : List A) (x : A) → edit xs (length xs) x ≡ xs ++ (x ∷ [])
+unfolding edit
+edit-last xs x =
+    let k : length xs ≤ length xs + 1 = omega arith in
+    rw (take-all (length xs) xs (le-refl _), drop-of-length-le xs k)
+
+-- 22
+pub last-full : (ds : List (List Row)) (t : List ℕ) → declarationLimit ≤ length ds → putIn ds (length ds) t ≡ refuse TooManyDeclarations declarationLimit 0
+unfolding putIn
+last-full ds t l =
+    let k : declarationLimit < length ds + 1 = omega arith in
+    rw (le-ltb (length ds) (length ds) (le-refl _), lt-ltb declarationLimit (length ds + 1) k)
+
+pub last-is : (ds : List (List Row)) (t : List ℕ) → length ds < declarationLimit → putIn ds (length ds) t ≡ onRows (declared t) (length ds) (append ds)
+unfolding putIn
+last-is ds t l =
+    let k : length ds + 1 ≤ declarationLimit = omega arith in
+    rw (le-ltb (length ds) (length ds) (le-refl _), le-ltb declarationLimit (length ds + 1) k) (go (declared t))
+  where
+    go : (o : Out) → onRows o (length ds) (λ rows. appendAll (take (length ds) ds) (rows ∷ drop (length ds + 1) ds)) ≡ onRows o (length ds) (append ds)
+    go (refused f) = refl
+    go (read rows) = append-last ds (length ds) rows (le-refl _)
+
+pub record Last (ds : List (List Row)) (t : List ℕ) (d : List (List Row)) : Type 0 where
   pub rows : List Row
   pub few : length ds < declarationLimit
   pub reads : declared t ≡ read rows
   pub then : append ds rows ≡ becomes d
   pub is : d ≡ ds ++ (rows ∷ [])
 
-pub add-done : (ds : List (List Row)) (t : List ℕ) (d : List (List Row)) → addTo ds t ≡ becomes d → Added ds t d
-unfolding addTo
-add-done ds t d e =
-    let p = must-hold (ltb (length ds) declarationLimit) _ _ d e in
-    let q = rows-done (declared t) (length ds) (append ds) d (p .1) in
-    record { rows = q .0; few = ltb-true _ _ (p .0); reads = q .1; then = q .2; is = append-done ds (q .0) d (q .2) .is }
-
-pub record Replaced (ds : List (List Row)) (place : ℕ) (t : List ℕ) (d : List (List Row)) : Type 0 where
-  pub rows : List Row
-  pub there : place < length ds
-  pub reads : declared t ≡ read rows
-  pub then : appendAll (take place ds) (rows ∷ drop (place + 1) ds) ≡ becomes d
-  pub is : d ≡ edit ds place rows
-
-pub replace-done : (ds : List (List Row)) (place : ℕ) (t : List ℕ) (d : List (List Row)) → replaceIn ds place t ≡ becomes d → Replaced ds place t d
-unfolding replaceIn edit
-replace-done ds place t d e =
-    let p = must-hold (ltb place (length ds)) _ _ d e in
-    let q = rows-done (declared t) place (λ rows. appendAll (take place ds) (rows ∷ drop (place + 1) ds)) d (p .1) in
-    record { rows = q .0; there = ltb-true _ _ (p .0); reads = q .1; then = q .2; is = appends-are (take place ds) (q .0 ∷ drop (place + 1) ds) d (q .2) }
+pub last-done : (ds : List (List Row)) (t : List ℕ) (d : List (List Row)) → putIn ds (length ds) t ≡ becomes d → Last ds t d
+last-done ds t d e =
+    let p = put-done ds (length ds) t d e in
+    let a : append ds (p .rows) ≡ becomes d = sym (append-last ds (length ds) (p .rows) (le-refl _)) ∙ p .then in
+    record { rows = p .rows; few = p .few; reads = p .reads; then = a; is = append-done ds (p .rows) d a .is }
 
 -- ---- the rules are kept
 
@@ -160,19 +198,16 @@ appends-good a (rows ∷ b) d g h few e =
     let n : length (p .0) ≡ length a + 1 = ap length (append-done a rows (p .0) (p .1) .is) ∙ length-append a (rows ∷ []) in
     appends-good (p .0) b d (append-good a rows (p .0) g (q .0) (omega arith) (p .1)) (q .1) (omega arith) (p .2)
 
-pub add-good : (ds : List (List Row)) (t : List ℕ) (d : List (List Row)) → Good ds → addTo ds t ≡ becomes d → Good d
-add-good ds t d g e = let a = add-done ds t d e in append-good ds (a .rows) d g (read-kept t (a .rows) (a .reads)) (a .few) (a .then)
-
 every-drop : {A : Type 0} (test : A → Bool) (k : ℕ) (xs : List A) → every test xs ≡ true → every test (drop k xs) ≡ true
 unfolding every
 every-drop test zero xs h = h
 every-drop test (suc k) [] h = h
 every-drop test (suc k) (x ∷ xs) h = every-drop test k xs (and-true (test x) (every test xs) h .1)
 
-pub replace-good : (ds : List (List Row)) (place : ℕ) (t : List ℕ) (d : List (List Row)) → Good ds → replaceIn ds place t ≡ becomes d → Good d
+pub put-good : (ds : List (List Row)) (place : ℕ) (t : List ℕ) (d : List (List Row)) → Good ds → putIn ds place t ≡ becomes d → Good d
 unfolding every
-replace-good ds place t d g e =
-    let a = replace-done ds place t d e in
+put-good ds place t d g e =
+    let a = put-done ds place t d e in
     let h : every isDeclaration (a .rows ∷ drop (place + 1) ds) ≡ true = rw (read-kept t (a .rows) (a .reads)) (every-drop isDeclaration (place + 1) ds (g .declarations)) in
-    let n : length (take place ds) + suc (length (drop (place + 1) ds)) ≤ declarationLimit = omega (arith, length-take place ds, length-drop (place + 1) ds, g .few, a .there) in
+    let n : length (take place ds) + suc (length (drop (place + 1) ds)) ≤ declarationLimit = omega (arith, length-take place ds, length-drop (place + 1) ds, g .few, a .there, a .few) in
     appends-good (take place ds) (a .rows ∷ drop (place + 1) ds) d (cut-good ds place g) h n (a .then)

@@ -22,7 +22,7 @@ use Rattle.resolve.specs.Kinds.{isKind, isDefinition}
 use Rattle.schema.specs.Out.{read}
 use Rattle.schema.specs.Schema.{declared}
 use Rattle.set.specs.Lists.{Result}
-use Rattle.set.specs.Calls.{answerOf, memoryOf, opened, added, replaced}
+use Rattle.set.specs.Calls.{answerOf, memoryOf, opened, put}
 use Rattle.set.specs.Naming.{hasFullName}
 
 -- ---- outcomes
@@ -36,7 +36,7 @@ pub record Outcome : Type 0 where
 unfoldable pub outcome : List ℕ → Result → Outcome
 outcome m r = record { answer = answerOf r; memory = memoryOf m r }
 
--- the contract of open, add and replace: what it allows of answer and memory
+-- the contract of open and put: what it allows of answer and memory
 abbrev pub Allowed : List ℕ → Result → Answer × List ℕ → Type 0
 Allowed m r o = (numbersOf (o .0) ≡ answerOf r) × (o .1 ≡ memoryOf m r)
 
@@ -50,12 +50,12 @@ isDone n = eqb (n .number) 0
 unfoldable pub emptySet : Outcome
 emptySet = record { answer = accepted 0 0 0; memory = encode [] }
 
--- the texts are added in turn, until one is refused
-unfoldable pub addEach : Outcome → List (List ℕ) → Outcome
-addEach o [] = o
-addEach o (t ∷ ts) = cond (isDone (o .answer)) (addEach (outcome (o .memory) (added (o .memory) t)) ts) o
+-- the texts are put in turn, each at the count that the answer before it tells, until one is refused
+unfoldable pub putEach : Outcome → List (List ℕ) → Outcome
+putEach o [] = o
+putEach o (t ∷ ts) = cond (isDone (o .answer)) (putEach (outcome (o .memory) (put (o .memory) (o .answer .first) t)) ts) o
 
--- the list with the one at a place replaced
+-- the list with x at a place: in place of what stands there, or last where the place is the list's length
 unfoldable pub edit : {A : Type 0} → List A → ℕ → A → List A
 edit xs place x = take place xs ++ (x ∷ drop (place + 1) xs)
 
@@ -66,10 +66,7 @@ ifDone n changed old = cond (isDone n) changed old
 -- memory that any calls made from texts, accepted or refused, with the texts that it stands for
 pub data Built : List ℕ → List (List ℕ) → Type 0 where
   opens : (m : List ℕ) → length m ≡ layoutLength → Built (memoryOf m (opened m)) []
-  adds : {m : List ℕ} {ts : List (List ℕ)} → Built m ts → (t : List ℕ)
-      → Built (memoryOf m (added m t)) (ifDone (answerOf (added m t)) (ts ++ (t ∷ [])) ts)
-  replaces : {m : List ℕ} {ts : List (List ℕ)} → Built m ts → (place : ℕ) (t : List ℕ)
-      → Built (memoryOf m (replaced m place t)) (ifDone (answerOf (replaced m place t)) (edit ts place t) ts)
+  puts : {m : List ℕ} {ts : List (List ℕ)} → Built m ts → (place : ℕ) (t : List ℕ) → Built (memoryOf m (put m place t)) (ifDone (answerOf (put m place t)) (edit ts place t) ts)
 
 -- ---- what may join a set
 

@@ -13,7 +13,7 @@ ghost use mathlib.Core.Path.{_≡_};
 ghost use lib.ListN.{length};
 ghost use Rattle.ground.specs.Bytes.{store};
 ghost use Rattle.row.specs.Layout.{layoutLength};
-ghost use Rattle.set.specs.Calls.{answerOf, memoryOf, opened, added, replaced};
+ghost use Rattle.set.specs.Calls.{answerOf, memoryOf, opened, put};
 ghost use Rattle.set.specs.Naming.{fullNameIn, namingOf};
 ghost use Rattle.canonical.specs.Calls.{textAt, writtenAt, lengthOf, bufferAfter, printOf};
 ghost use Rattle.dhokyurai.specs.Signed.{signed};
@@ -47,28 +47,7 @@ pub extern "C" fn dhokyurai_open(
 }
 
 #[no_mangle]
-pub extern "C" fn dhokyurai_add(
-    memory: &mut [u8],
-    text: &[u8],
-    a: &mut usize,
-    b: &mut usize,
-    c: &mut usize,
-) -> u8
-    ensures { λ r. ⌜ (r ≡ answerOf (added (now (memory .entry)) (now (text .entry))) .number)
-        × (now (memory .exit) ≡ memoryOf (now (memory .entry)) (added (now (memory .entry)) (now (text .entry))))
-        × (now (a .exit) ≡ answerOf (added (now (memory .entry)) (now (text .entry))) .first)
-        × (now (b .exit) ≡ answerOf (added (now (memory .entry)) (now (text .entry))) .second)
-        × (now (c .exit) ≡ answerOf (added (now (memory .entry)) (now (text .entry))) .third) ⌝ }
-{
-    let n = Numbers::of(set::add(memory, text));
-    *a = n.first;
-    *b = n.second;
-    *c = n.third;
-    n.number
-}
-
-#[no_mangle]
-pub extern "C" fn dhokyurai_replace(
+pub extern "C" fn dhokyurai_put(
     memory: &mut [u8],
     place: usize,
     text: &[u8],
@@ -76,13 +55,13 @@ pub extern "C" fn dhokyurai_replace(
     b: &mut usize,
     c: &mut usize,
 ) -> u8
-    ensures { λ r. ⌜ (r ≡ answerOf (replaced (now (memory .entry)) place (now (text .entry))) .number)
-        × (now (memory .exit) ≡ memoryOf (now (memory .entry)) (replaced (now (memory .entry)) place (now (text .entry))))
-        × (now (a .exit) ≡ answerOf (replaced (now (memory .entry)) place (now (text .entry))) .first)
-        × (now (b .exit) ≡ answerOf (replaced (now (memory .entry)) place (now (text .entry))) .second)
-        × (now (c .exit) ≡ answerOf (replaced (now (memory .entry)) place (now (text .entry))) .third) ⌝ }
+    ensures { λ r. ⌜ (r ≡ answerOf (put (now (memory .entry)) place (now (text .entry))) .number)
+        × (now (memory .exit) ≡ memoryOf (now (memory .entry)) (put (now (memory .entry)) place (now (text .entry))))
+        × (now (a .exit) ≡ answerOf (put (now (memory .entry)) place (now (text .entry))) .first)
+        × (now (b .exit) ≡ answerOf (put (now (memory .entry)) place (now (text .entry))) .second)
+        × (now (c .exit) ≡ answerOf (put (now (memory .entry)) place (now (text .entry))) .third) ⌝ }
 {
-    let n = Numbers::of(set::replace(memory, place, text));
+    let n = Numbers::of(set::put(memory, place, text));
     *a = n.first;
     *b = n.second;
     *c = n.third;

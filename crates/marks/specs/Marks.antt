@@ -28,7 +28,7 @@ use Rattle.schema.specs.Out.{each}
 use Rattle.schema.specs.Schema.{aliasRows, declared, definition, definitionRows, fieldAliasRows, fieldRows, fieldsRows, fixedRows, primitiveRows, recordRows, referenceRows, rowsOf, schemaBy, schemaOf, unionRows, wordRows}
 use Rattle.resolve.specs.Kinds.{isDefinition, isKind}
 use Rattle.resolve.specs.Resolve.{defines, faultIn, faultOf, isDefined}
-use Rattle.set.specs.Lists.{Result, addTo, append, becomes, next, refuses}
+use Rattle.set.specs.Lists.{Result, append, appendAll, becomes, next, putIn, refuses}
 use Rattle.canonical.specs.Canonical.{canonicalOf, isWritten, listed, partsOf, startsAt, textOf}
 use Rattle.canonical.specs.Pieces.{closing, opening}
 use Rattle.rabin.specs.Rabin.{bitStep, bitSteps, bitsOf, byteBits, byteStep, entryOf, rabinFrom, rabinOf, signedOf}
@@ -40,13 +40,13 @@ use Rattle.row.specs.declared.kind.Kind.the-variants.{Null, Int, Reference, Uni
 
 -- what is asked: an entry of the Rabin table; the fingerprint of some bytes; the full name, in a namespace, of a name as it is written; the rows and the
 -- canonical text of a declaration; the set that
--- texts make, added to the empty set one by one; two questions, on either side of a rule's edge
+-- texts make, put one by one at the end of the empty set; two questions, on either side of a rule's edge
 pub data Question : Type 0 where
   entry : ℕ → Question
   fingerprint : List ℕ → Question
   called : String → String → Question
   listing : String → Question
-  adding : List String → Question
+  putting : List String → Question
   edge : Question → Question → Question
 
 -- a row's kind, depth and string
@@ -74,9 +74,9 @@ line kind depth text = record { kind = kind; depth = depth; text = text }
 abbrev pub refusedBy : Refusal → Answer
 refusedBy r = refused (numberOf (r .why)) (r .place) (r .at)
 
-abbrev pub addedEach : List (List Row) → List String → Result
-addedEach ds [] = becomes ds
-addedEach ds (t ∷ ts) = next (addTo ds (ascii t)) (λ longer. addedEach longer ts)
+abbrev pub putEach : List (List Row) → List String → Result
+putEach ds [] = becomes ds
+putEach ds (t ∷ ts) = next (putIn ds (length ds) (ascii t)) (λ longer. putEach longer ts)
 
 abbrev pub countsOf : Result → Answer
 countsOf (becomes ds) = counts (length ds) (length (flat ds)) (length (texts (flat ds)))
@@ -92,8 +92,8 @@ answerTo (entry i) = bits (bitsOf (signedOf (entryOf i)))
 answerTo (fingerprint bs) = bits (bitsOf (rabinOf bs))
 answerTo (called namespace written) =
     cond (isNamespace (ascii namespace) && isName (ascii written)) (full (fullName (ascii namespace) (ascii written))) none
-answerTo (listing text) = linesOf (addedEach [] (text ∷ []))
-answerTo (adding texts) = countsOf (addedEach [] texts)
+answerTo (listing text) = linesOf (putEach [] (text ∷ []))
+answerTo (putting texts) = countsOf (putEach [] texts)
 answerTo (edge a b) = sides (answerTo a) (answerTo b)
 
 -- ---- the twelve
@@ -148,11 +148,11 @@ marks =
     ∷ (called "n" "a.", none)
     ∷ (called "n" "", none)
     ∷ (called "" "a", full (ascii "a"))
-    ∷ (edge (adding (aliasTaken ∷ [])) (adding (nameTaken ∷ [])), sides (counts 1 6 4) (refused 11 0 88))
-    ∷ (edge (adding (first ∷ asItsAlias ∷ [])) (adding (first ∷ asItself ∷ [])), sides (counts 2 3 3) (refused 25 1 23))
+    ∷ (edge (putting (aliasTaken ∷ [])) (putting (nameTaken ∷ [])), sides (counts 1 6 4) (refused 11 0 88))
+    ∷ (edge (putting (first ∷ asItsAlias ∷ [])) (putting (first ∷ asItself ∷ [])), sides (counts 2 3 3) (refused 25 1 23))
     ∷ []
 
 -- every mark's answer is the one that the definitions give
 pub marks-hold : map (λ (m : Mark). answerTo (m .0)) marks ≡ map (λ (m : Mark). m .1) marks
-unfolding marks byteAt same every isEmpty isOneOf isWithin isLetter isDigit isFirst isLater isSimple joined ontoFirst parts isDotted startsWithDot isName isNamespace hasDot fullName lastOf lastPart namespacePart reservedWords isReserved wordOf simple number text run verdict scanned valueFrom firstElement nextElement unroll elementsAt elements isDelimiter literalEnd modeAfter depthAfter atRest toRest closingOf isBlock endOf valueOf isMember keyFrom firstKey keyBehind keysAt membersAt lastUnder member membersOf fitting sizeFrom sizeOf partAt isStop stringFrom bytesFrom stringAt count skipOf shapeOf isValue texts flat wordKind objectForm formBy formWithin simpleCheck fullAt referenceCheck aliasCheck namespaceOf definedAt namespaceCheck definitionCheck asText asArray allTexts aliasesIn objectsAmong fieldsIn fieldNameAt takenBy fieldNamesCheck clash headOf before isNew unionCheck each referenceRows primitiveRows wordRows aliasRows definitionRows definition fieldAliasRows fieldRows fieldsRows recordRows fixedRows unionRows schemaBy schemaOf rowsOf declared isKind isDefinition defines isDefined faultOf faultIn append addTo isWritten startsAt partsOf listed textOf canonicalOf opening closing bitStep bitSteps entryOf byteBits byteStep rabinFrom isShort some under
+unfolding marks byteAt same every isEmpty isOneOf isWithin isLetter isDigit isFirst isLater isSimple joined ontoFirst parts isDotted startsWithDot isName isNamespace hasDot fullName lastOf lastPart namespacePart reservedWords isReserved wordOf simple number text run verdict scanned valueFrom firstElement nextElement unroll elementsAt elements isDelimiter literalEnd modeAfter depthAfter atRest toRest closingOf isBlock endOf valueOf isMember keyFrom firstKey keyBehind keysAt membersAt lastUnder member membersOf fitting sizeFrom sizeOf partAt isStop stringFrom bytesFrom stringAt count skipOf shapeOf isValue texts flat wordKind objectForm formBy formWithin simpleCheck fullAt referenceCheck aliasCheck namespaceOf definedAt namespaceCheck definitionCheck asText asArray allTexts aliasesIn objectsAmong fieldsIn fieldNameAt takenBy fieldNamesCheck clash headOf before isNew unionCheck each referenceRows primitiveRows wordRows aliasRows definitionRows definition fieldAliasRows fieldRows fieldsRows recordRows fixedRows unionRows schemaBy schemaOf rowsOf declared isKind isDefinition defines isDefined faultOf faultIn append appendAll putIn isWritten startsAt partsOf listed textOf canonicalOf opening closing bitStep bitSteps entryOf byteBits byteStep rabinFrom isShort some under
 marks-hold = refl

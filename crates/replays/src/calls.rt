@@ -122,8 +122,7 @@ pub(crate) fn answer(
 ) -> usize {
     match call {
         Call::Open => put_answer(out, set::open(mem)),
-        Call::Add(n) => put_answer(out, set::add(mem, first(text, n))),
-        Call::Replace(place, n) => put_answer(out, set::replace(mem, place, first(text, n))),
+        Call::Put(place, n) => put_answer(out, set::put(mem, place, first(text, n))),
         Call::Name(place, row) => name(mem, place, row, out),
         Call::Canonical(place, offset, room) => canonical_text(
             mem,

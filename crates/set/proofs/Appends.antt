@@ -32,7 +32,7 @@ use Rattle.resolve.proofs.MemoryLaws.{length-rows}
 use Rattle.resolve.proofs.Laws.{good-within, more-good}
 use Rattle.set.specs.Lists.{Result, becomes, refuses, append, onResolved}
 use Rattle.set.specs.Calls.{answerOf, memoryOf}
-use Rattle.set.specs.Steps.{countedMore, putMore, Drafted, IsDraft, Ended}
+use Rattle.set.specs.Steps.{countedMore, pushedMore, Drafted, IsDraft, Ended}
 use Rattle.set.proofs.Places.{is-encoded, is-good, is-long, is-count, is-counts, is-rows}
 
 -- ---- what a call answers, and leaves in memory
@@ -51,11 +51,11 @@ ended-as e d = record { answer = d .answer ∙ ap answerOf (sym e); memory = d .
 -- ---- rows written
 
 -- the function's own form: n rows of memory
-pub puts : (m «from» : List ℕ) (c : Counts) (start n : ℕ) {s : Counts} {m₁ m₂ : List ℕ} → s ≡ countedAll c (rowsFrom «from» n start) → m₁ ≡ pushedAll m c (rowsFrom «from» n start)
+pub pushes : (m «from» : List ℕ) (c : Counts) (start n : ℕ) {s : Counts} {m₁ m₂ : List ℕ} → s ≡ countedAll c (rowsFrom «from» n start) → m₁ ≡ pushedAll m c (rowsFrom «from» n start)
     → m₂ ≡ declared m₁ (c .declarations) n → {r : Counts} → r ≡ countsOf (c .declarations + 1) (s .rows) (s .«string_bytes»)
-    → (r ≡ countedMore c (rowsFrom «from» n start)) × (m₂ ≡ putMore m c (rowsFrom «from» n start))
-unfolding countedMore putMore
-puts m f c start n p q e g = (rw p at g, rw (e, q, length-rows f n start))
+    → (r ≡ countedMore c (rowsFrom «from» n start)) × (m₂ ≡ pushedMore m c (rowsFrom «from» n start))
+unfolding countedMore pushedMore
+pushes m f c start n p q e g = (rw p at g, rw (e, q, length-rows f n start))
 
 module _ (ds : List (List Row)) (d : List Row) (w : Within (ds ++ (d ∷ []))) where
   flat-more : flat (ds ++ (d ∷ [])) ≡ flat ds ++ d
@@ -68,9 +68,9 @@ module _ (ds : List (List Row)) (d : List Row) (w : Within (ds ++ (d ∷ []))) w
   bytes-more : length (texts (flat (ds ++ (d ∷ [])))) ≡ length (texts (flat ds)) + length (texts d)
   bytes-more = ap (λ (x : List Row). length (texts x)) flat-more ∙ ap length (texts-append (flat ds) d) ∙ length-append (texts (flat ds)) (texts d)
 
-  pub put-encode : putMore (encode ds) (setCounts ds) d ≡ encode (ds ++ (d ∷ []))
-  unfolding putMore setCounts
-  put-encode = append-encode ds d w
+  pub push-encode : pushedMore (encode ds) (setCounts ds) d ≡ encode (ds ++ (d ∷ []))
+  unfolding pushedMore setCounts
+  push-encode = append-encode ds d w
 
   pub counted-encode : countedMore (setCounts ds) d ≡ setCounts (ds ++ (d ∷ []))
   unfolding countedMore setCounts
@@ -129,12 +129,12 @@ module _ (m : List ℕ) (w : wellFormed m ≡ true) (c : Counts) (e : c ≡ coun
         lies : (rows : List Row) → Drafted «from» start n bytes rows → (start + n ≤ rowLimit) × (rowsFrom «from» n start ≡ rows)
         lies rows d = d .fits (omega (arith, rows-most)) (omega (arith, bytes-most))
 
-        -- what first_fault and put ask
+        -- what first_fault and push ask
         pub append-asks : IsDraft «from» start n bytes → (length m ≡ layoutLength) × (c .rows ≤ rowLimit) × (length «from» ≡ layoutLength) × (start + n ≤ rowLimit)
         append-asks d = (is-long m w, rows-most, d .drafted .long, lies (d .rows) (d .drafted) .0)
 
-        pub put-asks : IsDraft «from» start n bytes → countIn m < declarationLimit → (c .declarations < declarationLimit) × (length «from» ≡ layoutLength) × (start + n ≤ rowLimit)
-        put-asks d room = (omega (arith, places-are, is-count m w), d .drafted .long, lies (d .rows) (d .drafted) .0)
+        pub push-asks : IsDraft «from» start n bytes → countIn m < declarationLimit → (c .declarations < declarationLimit) × (length «from» ≡ layoutLength) × (start + n ≤ rowLimit)
+        push-asks d room = (omega (arith, places-are, is-count m w), d .drafted .long, lies (d .rows) (d .drafted) .0)
 
         module _ (f : Resolution) (found : f ≡ faultIn (rowsFrom m (c .rows) 0) (rowsFrom «from» n start)) where
           faults : (rows : List Row) → Drafted «from» start n bytes rows → f ≡ faultIn (flat (decode m)) rows
@@ -153,11 +153,11 @@ module _ (m : List ℕ) (w : wellFormed m ≡ true) (c : Counts) (e : c ≡ coun
             more-is rows d =
                 more-good (decode m) rows (is-good m w) (omega (arith, is-count m w)) (omega (arith, rows-are, rows-most, d .counted)) (omega (arith, bytes-are, bytes-most, d .strings)) (d .kept) (sym (faults rows d) ∙ b)
 
-            pub append-done : {s : Counts} {m′ : List ℕ} → s ≡ countedMore c (rowsFrom «from» n start) → m′ ≡ putMore m c (rowsFrom «from» n start)
+            pub append-done : {s : Counts} {m′ : List ℕ} → s ≡ countedMore c (rowsFrom «from» n start) → m′ ≡ pushedMore m c (rowsFrom «from» n start)
                 → (rows : List Row) → Drafted «from» start n bytes rows → Ended m m′ (Done s) (append (decode m) rows)
             append-done p q rows d =
                 let g : Within (decode m ++ (rows ∷ [])) = good-within (decode m ++ (rows ∷ [])) (more-is rows d) in
                 let l : rowsFrom «from» n start ≡ rows = lies rows d .1 in
                 ended-done m (decode m ++ (rows ∷ [])) (tested rows d ∙ rw b)
                 (p ∙ ap₂ countedMore counts-is l ∙ counted-encode (decode m) rows g)
-                (q ∙ ap (λ (x : List ℕ). putMore x c (rowsFrom «from» n start)) (is-encoded m w) ∙ ap₂ (putMore (encode (decode m))) counts-is l ∙ put-encode (decode m) rows g)
+                (q ∙ ap (λ (x : List ℕ). pushedMore x c (rowsFrom «from» n start)) (is-encoded m w) ∙ ap₂ (pushedMore (encode (decode m))) counts-is l ∙ push-encode (decode m) rows g)

@@ -29,14 +29,14 @@ use Rattle.schema.specs.declared.walked.Walked.{Walked}
 use Rattle.schema.specs.declared.walked.Walked.the-variants.{Read, Bad}
 use Rattle.schema.specs.Out.{Out}
 use Rattle.schema.specs.Schema.{declared}
-use Rattle.schema.specs.Did.{Did}
-use Rattle.set.specs.Lists.{Result, refuses, refuse, next, onRows, append, appendAll, addTo, replaceIn}
-use Rattle.set.specs.Calls.{answerOf, memoryOf, onSet, opened, added, replaced}
+use Rattle.set.specs.Lists.{Result, refuses, refuse, next, onRows, append, appendAll, putIn}
+use Rattle.set.specs.Calls.{answerOf, memoryOf, onSet, opened, put}
 use Rattle.set.specs.Steps.{Drafted, IsDraft, Wrote, Ended}
 use Rattle.set.proofs.Places.{is-good, is-long, is-count}
 use Rattle.set.proofs.Appends.{ended-no, ended-done, ended-as}
 use Rattle.set.proofs.Rests.{told-no, told-done, Stepped, stepped}
 use Rattle.set.proofs.Drafts.{read-not, read-rows, is-draft}
+use Rattle.set.proofs.Ends.{append-last}
 
 -- what a public call promises, of what its parts did
 pub both : {m m′ : List ℕ} {r : Answer} {x : Result} → Ended m m′ r x → (numbersOf r ≡ answerOf x) × (m′ ≡ memoryOf m x)
@@ -68,41 +68,7 @@ module _ (m : List ℕ) (place : ℕ) (change : List (List Row) → Result) wher
   unfolding onSet
   set-well w = rw w
 
--- ---- add
-
-module _ (m t : List ℕ) where
-  pub add-not : wellFormed m ≡ false → {r : Answer} → r ≡ Refused (record { why = NotWellFormed; place = 0; at = 0 }) → (numbersOf r ≡ answerOf (added m t)) × (m ≡ memoryOf m (added m t))
-  unfolding added
-  add-not w g = no-both m g (set-not m 0 (λ ds. addTo ds t) w)
-
-  module _ (w : wellFormed m ≡ true) (n : ℕ) (e : n ≡ countIn m) where
-    count-is : n ≡ length (decode m)
-    count-is = e ∙ is-count m w
-
-    pub add-many : declarationLimit ≤ n → {r : Answer} → r ≡ Refused (record { why = TooManyDeclarations; place = declarationLimit; at = 0 }) → (numbersOf r ≡ answerOf (added m t)) × (m ≡ memoryOf m (added m t))
-    unfolding added addTo
-    add-many h g = no-both m g (set-well m 0 (λ ds. addTo ds t) w ∙ rw (← count-is, le-ltb n declarationLimit h))
-
-    module _ (l : n < declarationLimit) where
-      add-is : added m t ≡ onRows (declared t) n (append (decode m))
-      unfolding added addTo
-      add-is = set-well m 0 (λ ds. addTo ds t) w ∙ rw (← count-is, lt-ltb n declarationLimit l)
-
-      module _ {d : List ℕ} {walked : Walked} (did : Wrote d walked (declared t)) where
-        pub add-bad : {f : Fault} → walked ≡ Bad f → {r : Refusal} → r ≡ placed f n → (numbersOf (Refused r) ≡ answerOf (added m t)) × (m ≡ memoryOf m (added m t))
-        add-bad h g = no-both m (ap Refused g) (add-is ∙ rw (read-not (declared t) did h))
-
-        pub add-asks : (c : Counts) → walked ≡ Read c → (wellFormed m ≡ true) × (countIn m < declarationLimit) × IsDraft d 0 (c .rows) (c .«string_bytes»)
-        add-asks c h = (w, omega arith, is-draft (declared t) did h)
-
-        pub add-rows : (c : Counts) → walked ≡ Read c → {r : Answer} {m′ : List ℕ}
-            → ((rows : List Row) → Drafted d 0 (c .rows) (c .«string_bytes») rows → Ended m m′ r (append (decode m) rows))
-            → (numbersOf r ≡ answerOf (added m t)) × (m′ ≡ memoryOf m (added m t))
-        add-rows c h end =
-            let x = read-rows (declared t) did h in
-            both (ended-as (add-is ∙ ap (λ (o : Out). onRows o n (append (decode m))) (x .1)) (end (x .0) (x .2)))
-
--- ---- replace, its text being read
+-- ---- rows put before the last declaration's end
 
 stored : (m o : List ℕ) → length m ≡ length o → store m 0 o ≡ o
 stored m o e =
@@ -137,9 +103,9 @@ module _ (m : List ℕ) (w : wellFormed m ≡ true) (place : ℕ) (l : place < c
       unfolding appendAll
       opens rows = rw before-decode
 
-      pub replace-first : (r : Refusal) → a ≡ Refused r → (rows : List Row) → Drafted draft 0 n bytes rows
+      pub inside-first : (r : Refusal) → a ≡ Refused r → (rows : List Row) → Drafted draft 0 n bytes rows
           → Ended m m (Refused r) (appendAll (take place (decode m)) (rows ∷ drop (place + 1) (decode m)))
-      replace-first r g rows d = ended-no m r (opens rows ∙ rw (told-no (append (decode out) rows) (did rows d .answer) g))
+      inside-first r g rows d = ended-no m r (opens rows ∙ rw (told-no (append (decode out) rows) (did rows d .answer) g))
 
       module _ (c : Counts) (g : a ≡ Done c) where
         step : (rows : List Row) → Drafted draft 0 n bytes rows → Stepped out rows out₁
@@ -154,44 +120,59 @@ module _ (m : List ℕ) (w : wellFormed m ≡ true) (place : ℕ) (l : place < c
         behind rows d = opens rows ∙ rw (step rows d .ok)
 
         module _ (y : Answer) (out₂ : List ℕ) (rest : Ended out₂ out₂ y (appendAll (decode out₁) (drop (place + 1) (decode m)))) where
-          pub replace-later : (r : Refusal) → y ≡ Refused r → (rows : List Row) → Drafted draft 0 n bytes rows
+          pub inside-later : (r : Refusal) → y ≡ Refused r → (rows : List Row) → Drafted draft 0 n bytes rows
               → Ended m m (Refused r) (appendAll (take place (decode m)) (rows ∷ drop (place + 1) (decode m)))
-          replace-later r h rows d = ended-no m r (behind rows d ∙ told-no (appendAll (decode out₁) (drop (place + 1) (decode m))) (rest .answer) h)
+          inside-later r h rows d = ended-no m r (behind rows d ∙ told-no (appendAll (decode out₁) (drop (place + 1) (decode m))) (rest .answer) h)
 
-          pub replace-done : (k : Counts) → y ≡ Done k → length out₂ ≡ layoutLength → (m′ : List ℕ) → m′ ≡ store m 0 out₂ → (rows : List Row) → Drafted draft 0 n bytes rows
+          pub inside-done : (k : Counts) → y ≡ Done k → length out₂ ≡ layoutLength → (m′ : List ℕ) → m′ ≡ store m 0 out₂ → (rows : List Row) → Drafted draft 0 n bytes rows
               → Ended m m′ (Done k) (appendAll (take place (decode m)) (rows ∷ drop (place + 1) (decode m)))
           unfolding memoryOf
-          replace-done k h long m′ p rows d =
+          inside-done k h long m′ p rows d =
               let t = told-done (appendAll (decode out₁) (drop (place + 1) (decode m))) (rest .answer) h in
               ended-done m (t .0) (behind rows d ∙ t .1) (t .2) (p ∙ stored m out₂ (is-long m w ∙ sym long) ∙ rest .memory ∙ ap (memoryOf out₂) (t .1))
 
--- ---- replace
+-- ---- put
+
+module _ (m : List ℕ) (w : wellFormed m ≡ true) (place : ℕ) {n : ℕ} (e : n ≡ countIn m) where
+  pub last-rows : n ≤ place → {d : List ℕ} {k bytes : ℕ} {r : Answer} {m′ : List ℕ} → ((rows : List Row) → Drafted d 0 k bytes rows → Ended m m′ r (append (decode m) rows))
+      → (rows : List Row) → Drafted d 0 k bytes rows → Ended m m′ r (appendAll (take place (decode m)) (rows ∷ drop (place + 1) (decode m)))
+  last-rows h end rows d = ended-as (append-last (decode m) place rows (omega (arith, is-count m w))) (end rows d)
 
 module _ (m : List ℕ) (place : ℕ) (t : List ℕ) where
-  pub replace-not : wellFormed m ≡ false → {r : Answer} → r ≡ Refused (record { why = NotWellFormed; place = place; at = 0 }) → (numbersOf r ≡ answerOf (replaced m place t)) × (m ≡ memoryOf m (replaced m place t))
-  unfolding replaced
-  replace-not w g = no-both m g (set-not m place (λ ds. replaceIn ds place t) w)
+  pub put-not : wellFormed m ≡ false → {r : Answer} → r ≡ Refused (record { why = NotWellFormed; place = place; at = 0 }) → (numbersOf r ≡ answerOf (put m place t)) × (m ≡ memoryOf m (put m place t))
+  unfolding put
+  put-not w g = no-both m g (set-not m place (λ ds. putIn ds place t) w)
 
   module _ (w : wellFormed m ≡ true) (n : ℕ) (e : n ≡ countIn m) where
-    pub replace-place : n ≤ place → {r : Answer} → r ≡ Refused (record { why = NoSuchPlace; place = place; at = 0 }) → (numbersOf r ≡ answerOf (replaced m place t)) × (m ≡ memoryOf m (replaced m place t))
-    unfolding replaced replaceIn
-    replace-place h g = no-both m g (set-well m place (λ ds. replaceIn ds place t) w ∙ rw (← is-count m w, ← e, le-ltb place n h))
+    pub put-nowhere : n < place → {r : Answer} → r ≡ Refused (record { why = NoSuchPlace; place = place; at = 0 }) → (numbersOf r ≡ answerOf (put m place t)) × (m ≡ memoryOf m (put m place t))
+    unfolding put putIn
+    put-nowhere h g = no-both m g (set-well m place (λ ds. putIn ds place t) w ∙ rw (← is-count m w, ← e, lt-ltb n place h))
 
-    module _ (l : place < n) where
-      replace-is : replaced m place t ≡ onRows (declared t) place (λ rows. appendAll (take place (decode m)) (rows ∷ drop (place + 1) (decode m)))
-      unfolding replaced replaceIn
-      replace-is = set-well m place (λ ds. replaceIn ds place t) w ∙ rw (← is-count m w, ← e, lt-ltb place n l)
+    module _ (l : place ≤ n) where
+      pub put-many : declarationLimit ≤ place → {r : Answer} → r ≡ Refused (record { why = TooManyDeclarations; place = declarationLimit; at = 0 })
+          → (numbersOf r ≡ answerOf (put m place t)) × (m ≡ memoryOf m (put m place t))
+      unfolding put putIn
+      put-many h g =
+          let k : declarationLimit < place + 1 = omega arith in
+          no-both m g (set-well m place (λ ds. putIn ds place t) w ∙ rw (← is-count m w, ← e, le-ltb n place l, lt-ltb declarationLimit (place + 1) k))
 
-      module _ {d : List ℕ} {walked : Walked} (did : Wrote d walked (declared t)) where
-        pub replace-bad : {f : Fault} → walked ≡ Bad f → {r : Refusal} → r ≡ placed f place → (numbersOf (Refused r) ≡ answerOf (replaced m place t)) × (m ≡ memoryOf m (replaced m place t))
-        replace-bad h g = no-both m (ap Refused g) (replace-is ∙ rw (read-not (declared t) did h))
+      module _ (few : place < declarationLimit) where
+        put-is : put m place t ≡ onRows (declared t) place (λ rows. appendAll (take place (decode m)) (rows ∷ drop (place + 1) (decode m)))
+        unfolding put putIn
+        put-is =
+            let k : place + 1 ≤ declarationLimit = omega arith in
+            set-well m place (λ ds. putIn ds place t) w ∙ rw (← is-count m w, ← e, le-ltb n place l, le-ltb declarationLimit (place + 1) k)
 
-        pub replace-asks : (c : Counts) → walked ≡ Read c → (wellFormed m ≡ true) × (place < countIn m) × IsDraft d 0 (c .rows) (c .«string_bytes»)
-        replace-asks c h = (w, omega arith, is-draft (declared t) did h)
+        module _ {d : List ℕ} {walked : Walked} (did : Wrote d walked (declared t)) where
+          pub put-bad : {f : Fault} → walked ≡ Bad f → {r : Refusal} → r ≡ placed f place → (numbersOf (Refused r) ≡ answerOf (put m place t)) × (m ≡ memoryOf m (put m place t))
+          put-bad h g = no-both m (ap Refused g) (put-is ∙ rw (read-not (declared t) did h))
 
-        pub replace-rows : (c : Counts) → walked ≡ Read c → {r : Answer} {m′ : List ℕ}
-            → ((rows : List Row) → Drafted d 0 (c .rows) (c .«string_bytes») rows → Ended m m′ r (appendAll (take place (decode m)) (rows ∷ drop (place + 1) (decode m))))
-            → (numbersOf r ≡ answerOf (replaced m place t)) × (m′ ≡ memoryOf m (replaced m place t))
-        replace-rows c h end =
-            let x = read-rows (declared t) did h in
-            both (ended-as (replace-is ∙ ap (λ (o : Out). onRows o place (λ rows. appendAll (take place (decode m)) (rows ∷ drop (place + 1) (decode m)))) (x .1)) (end (x .0) (x .2)))
+          pub put-asks : (c : Counts) → walked ≡ Read c → (wellFormed m ≡ true) × (place ≤ countIn m) × (place < declarationLimit) × IsDraft d 0 (c .rows) (c .«string_bytes»)
+          put-asks c h = (w, omega arith, few, is-draft (declared t) did h)
+
+          pub put-read : (c : Counts) → walked ≡ Read c → {r : Answer} {m′ : List ℕ}
+              → ((rows : List Row) → Drafted d 0 (c .rows) (c .«string_bytes») rows → Ended m m′ r (appendAll (take place (decode m)) (rows ∷ drop (place + 1) (decode m))))
+              → (numbersOf r ≡ answerOf (put m place t)) × (m′ ≡ memoryOf m (put m place t))
+          put-read c h end =
+              let x = read-rows (declared t) did h in
+              both (ended-as (put-is ∙ ap (λ (o : Out). onRows o place (λ rows. appendAll (take place (decode m)) (rows ∷ drop (place + 1) (decode m)))) (x .1)) (end (x .0) (x .2)))

@@ -3,6 +3,7 @@ pub mod Laws
 mod Places
 mod Appends
 mod Drafts
+mod Ends
 mod Rests
 mod CallLaws
 mod NameLaws

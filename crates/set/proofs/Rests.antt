@@ -29,9 +29,9 @@ use Rattle.resolve.specs.declared.Resolution.the-variants.{Resolved, Faulty}
 use Rattle.resolve.proofs.Laws.{good-within, encode-good, cut-good, more-good}
 use Rattle.set.specs.Lists.{Result, becomes, refuses, refuse, next, append, appendAll, onResolved}
 use Rattle.set.specs.Calls.{answerOf, memoryOf}
-use Rattle.set.specs.Steps.{countedMore, putMore, Drafted, IsDraft, Ended}
+use Rattle.set.specs.Steps.{countedMore, pushedMore, Drafted, IsDraft, Ended}
 use Rattle.set.proofs.Places.{Place, is-encoded, is-good, is-long, is-count, is-counts, is-before, place-of}
-use Rattle.set.proofs.Appends.{put-encode, counted-encode, ended-no, ended-done}
+use Rattle.set.proofs.Appends.{push-encode, counted-encode, ended-no, ended-done}
 
 -- ---- the declarations before a place: out holds the first i of m, and c counts them
 
@@ -75,9 +75,9 @@ module _ (m : List ℕ) (w : wellFormed m ≡ true) (i : ℕ) (l : i < countIn m
       more-within : Within (take i (decode m) ++ (here .rows ∷ []))
       more-within = rw (← here .last) (good-within (take (i + 1) (decode m)) (cut-good (decode m) (i + 1) (is-good m w)))
 
-      pub copied-more : (out′ : List ℕ) (c′ : Counts) → c′ ≡ countedMore c (rowsFrom m n (c .rows)) → out′ ≡ putMore out c (rowsFrom m n (c .rows)) → Copied m (i + 1) out′ c′
+      pub copied-more : (out′ : List ℕ) (c′ : Counts) → c′ ≡ countedMore c (rowsFrom m n (c .rows)) → out′ ≡ pushedMore out c (rowsFrom m n (c .rows)) → Copied m (i + 1) out′ c′
       copied-more out′ c′ p q = record {
-        bytes = q ∙ ap (putMore out c) rows-are ∙ ap₂ (λ (x : List ℕ) (y : Counts). putMore x y (here .rows)) (z .bytes) (z .counts) ∙ put-encode (take i (decode m)) (here .rows) more-within ∙ ap encode (sym (here .last));
+        bytes = q ∙ ap (pushedMore out c) rows-are ∙ ap₂ (λ (x : List ℕ) (y : Counts). pushedMore x y (here .rows)) (z .bytes) (z .counts) ∙ push-encode (take i (decode m)) (here .rows) more-within ∙ ap encode (sym (here .last));
         counts = p ∙ ap (countedMore c) rows-are ∙ ap (λ (y : Counts). countedMore y (here .rows)) (z .counts) ∙ counted-encode (take i (decode m)) (here .rows) more-within ∙ ap setCounts (sym (here .last));
       }
 

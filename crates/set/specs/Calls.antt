@@ -13,7 +13,7 @@ use Rattle.row.specs.Rows.{Row}
 use Rattle.row.specs.Sets.{encode, decode}
 use Rattle.row.specs.Memory.{setCounts}
 use Rattle.resolve.specs.WellFormed.{wellFormed}
-use Rattle.set.specs.Lists.{Result, becomes, refuses, refuse, addTo, replaceIn}
+use Rattle.set.specs.Lists.{Result, becomes, refuses, refuse, putIn}
 
 -- in 01's numbers: an accepted call answers 0 and the set's three counts, a refused one the refusal's number, place and position. The contracts read an
 -- answer by `numbersOf` of `answer`; two answers with the same numbers are one (law `numbers-one` there), so nothing is lost
@@ -34,8 +34,6 @@ onSet m place change = cond (wellFormed m) (change (decode m)) (refuse NotWellFo
 unfoldable pub opened : List ℕ → Result
 opened m = cond (eqb (length m) layoutLength) (becomes []) (refuse NotWellFormed 0 0)
 
-unfoldable pub added : List ℕ → List ℕ → Result
-added m text = onSet m 0 (λ ds. addTo ds text)
-
-unfoldable pub replaced : List ℕ → ℕ → List ℕ → Result
-replaced m place text = onSet m place (λ ds. replaceIn ds place text)
+-- put a text at a place; the place equal to the count is that of one declaration more
+unfoldable pub put : List ℕ → ℕ → List ℕ → Result
+put m place text = onSet m place (λ ds. putIn ds place text)

@@ -1,9 +1,9 @@
--- What may become of a set, a list of declarations' rows: one declaration more, one replaced, or a refusal.
+-- What may become of a set, a list of declarations' rows: a declaration put at a place, or a refusal.
 -- Assumes nothing.
 use Prim.Native.Nat.{ℕ, _+_}
 use mathlib.Core.Bool.{cond}
 use mathlib.Core.List.{List, [], _∷_, _++_}
-use lib.Dec.{leb, ltb}
+use lib.Dec.{ltb}
 use lib.ListN.{length, take, drop}
 use Rattle.answer.specs.declared.refusal.Why.{Why}
 use Rattle.answer.specs.declared.refusal.Why.the-variants.{NoSuchPlace, TooManyDeclarations, TooManyRows, TooManyStringBytes}
@@ -51,16 +51,10 @@ unfoldable pub appendAll : List (List Row) → List (List Row) → Result
 appendAll ds [] = becomes ds
 appendAll ds (rows ∷ more) = next (append ds rows) (λ longer. appendAll longer more)
 
--- add: 22, then the text's own faults, then 23 to 26
-unfoldable pub addTo : List (List Row) → List ℕ → Result
-addTo ds text =
-    cond (ltb (length ds) declarationLimit)
-    (onRows (declared text) (length ds) (append ds))
-    (refuse TooManyDeclarations declarationLimit 0)
-
--- replace: 21, then the text's own faults, then 23 to 26 for each declaration from the place on, in turn
-unfoldable pub replaceIn : List (List Row) → ℕ → List ℕ → Result
-replaceIn ds place text =
-    cond (ltb place (length ds))
-    (onRows (declared text) place (λ rows. appendAll (take place ds) (rows ∷ drop (place + 1) ds)))
-    (refuse NoSuchPlace place 0)
+-- put at a place: 21 above the count; 22 where there would be more declarations than the limit; then the text's own faults; then 23 to 26 for each
+-- declaration from the place on, in turn, the new one first. What stood at the place goes; at the place equal to the count nothing stood
+unfoldable pub putIn : List (List Row) → ℕ → List ℕ → Result
+putIn ds place text =
+    cond (ltb (length ds) place) (refuse NoSuchPlace place 0)
+    (cond (ltb declarationLimit (place + 1)) (refuse TooManyDeclarations declarationLimit 0)
+    (onRows (declared text) place (λ rows. appendAll (take place ds) (rows ∷ drop (place + 1) ds))))

@@ -39,8 +39,8 @@ refusedName why place = Refused (record { why = why; place = place; at = 0 })
 unfoldable pub countedMore : Counts → List Row → Counts
 countedMore c rows = countsOf (c .declarations + 1) (countedAll c rows .rows) (countedAll c rows .«string_bytes»)
 
-unfoldable pub putMore : List ℕ → Counts → List Row → List ℕ
-putMore m c rows = declared (pushedAll m c rows) (c .declarations) (length rows)
+unfoldable pub pushedMore : List ℕ → Counts → List Row → List ℕ
+pushedMore m c rows = declared (pushedAll m c rows) (c .declarations) (length rows)
 
 -- the numbers n and bytes, and where these are within the limits the memory from row `start` on, stand for the rows of a declaration
 pub record Drafted («from» : List ℕ) (start n bytes : ℕ) (rows : List Row) : Type 0 where

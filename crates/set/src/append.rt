@@ -19,7 +19,7 @@ ghost use Rattle.row.specs.Rows.{Row};
 ghost use Rattle.row.specs.Sets.{countIn, rowsFrom, decode};
 ghost use Rattle.resolve.specs.WellFormed.{wellFormed};
 ghost use Rattle.set.specs.Lists.{append};
-ghost use Rattle.set.specs.Steps.{countedMore, putMore, Drafted, IsDraft, Ended};
+ghost use Rattle.set.specs.Steps.{countedMore, pushedMore, Drafted, IsDraft, Ended};
 
 // A refusal that has no byte position.
 pub(crate) fn refused(why: Why, place: usize) -> Answer
@@ -33,10 +33,10 @@ pub(crate) fn refused(why: Why, place: usize) -> Answer
 }
 
 // The n rows of `from` from row `start` on, written behind those that are counted, as one declaration more.
-pub(crate) fn put(mem: &mut [u8], counts: Counts, from: &[u8], start: usize, n: usize) -> Counts
+pub(crate) fn push(mem: &mut [u8], counts: Counts, from: &[u8], start: usize, n: usize) -> Counts
     requires { ⌜ (counts .declarations < declarationLimit) × (length (now «from») ≡ layoutLength) × (start + n ≤ rowLimit) ⌝ }
     ensures { λ r. ⌜ (r ≡ countedMore counts (rowsFrom (now («from» .entry)) n start))
-        × (now (mem .exit) ≡ putMore (now (mem .entry)) counts (rowsFrom (now («from» .entry)) n start)) ⌝ }
+        × (now (mem .exit) ≡ pushedMore (now (mem .entry)) counts (rowsFrom (now («from» .entry)) n start)) ⌝ }
 {
     let place = counts.declarations;
     let sum = push_rows(mem, counts, from, start, n);
@@ -61,6 +61,6 @@ pub(crate) fn append(mem: &mut [u8], from: &[u8], start: usize, n: usize, bytes:
     let names = first_fault(mem, sum.rows, from, start, n);
     match names {
         Resolution::Faulty(f) => Answer::Refused(f.placed(place)),
-        Resolution::Resolved => Answer::Done(put(mem, sum, from, start, n)),
+        Resolution::Resolved => Answer::Done(push(mem, sum, from, start, n)),
     }
 }

@@ -1,6 +1,6 @@
 // The calls that change a set.
 use crate::append::append;
-use crate::append::put;
+use crate::append::push;
 use crate::append::refused;
 use answer::Answer;
 use answer::Counts;
@@ -20,15 +20,15 @@ ghost use mathlib.Core.Path.{_≡_};
 ghost use mathlib.Core.Bool.{true};
 ghost use mathlib.Core.List.{List, _∷_};
 ghost use Prim.Native.Nat.{_+_, _≤_, _<_};
-ghost use lib.ListN.{length, take, drop};
+ghost use lib.ListN.{take, drop};
 ghost use Rattle.answer.specs.Answers.{numbersOf};
-ghost use Rattle.row.specs.Layout.{layoutLength};
+ghost use Rattle.row.specs.Layout.{declarationLimit, layoutLength};
 ghost use Rattle.row.specs.Rows.{Row};
 ghost use Rattle.row.specs.Sets.{zeros, countIn, encode, decode};
 ghost use Rattle.schema.specs.Schema.{declared};
 ghost use Rattle.resolve.specs.WellFormed.{wellFormed};
 ghost use Rattle.set.specs.Lists.{appendAll};
-ghost use Rattle.set.specs.Calls.{answerOf, memoryOf, opened, added, replaced};
+ghost use Rattle.set.specs.Calls.{answerOf, memoryOf, opened, put};
 ghost use Rattle.set.specs.Steps.{Drafted, IsDraft, Wrote, Ended};
 
 // Memory of the layout's length becomes the empty set, whatever it held.
@@ -51,26 +51,6 @@ fn read_text(text: &[u8], draft: &mut [u8]) -> Walked
     declare(text, draft)
 }
 
-// One declaration more, by its text.
-pub fn add(mem: &mut [u8], text: &[u8]) -> Answer
-    ensures { λ r. ⌜ (numbersOf r ≡ answerOf (added (now (mem .entry)) (now (text .entry))))
-        × (now (mem .exit) ≡ memoryOf (now (mem .entry)) (added (now (mem .entry)) (now (text .entry)))) ⌝ }
-{
-    if !well_formed(mem) {
-        return refused(Why::NotWellFormed, 0);
-    }
-    let place = declarations(mem);
-    if Counts::DECLARATIONS <= place {
-        return refused(Why::TooManyDeclarations, Counts::DECLARATIONS);
-    }
-    let mut draft = [0u8; Layout::LENGTH];
-    let read = read_text(text, &mut draft);
-    match read {
-        Walked::Bad(f) => Answer::Refused(f.placed(place)),
-        Walked::Read(c) => append(mem, &draft, 0, c.rows, c.string_bytes),
-    }
-}
-
 // The declarations of a set before a place, into memory that is zero.
 fn copy_before(mem: &[u8], place: usize, out: &mut [u8])
     requires { ⌜ (wellFormed (now mem) ≡ true) × (place ≤ countIn (now mem)) × (now out ≡ zeros layoutLength) ⌝ }
@@ -80,7 +60,7 @@ fn copy_before(mem: &[u8], place: usize, out: &mut [u8])
     let mut i = 0;
     while i < place {
         let n = rows_of(mem, i);
-        sum = put(out, sum, mem, sum.rows, n);
+        sum = push(out, sum, mem, sum.rows, n);
         i += 1;
     }
 }
@@ -109,7 +89,7 @@ fn append_from(out: &mut [u8], mem: &[u8], place: usize) -> Answer
 }
 
 // The rows of a draft in place of a declaration: the declarations before it, the draft, those behind it.
-fn replace_by(mem: &mut [u8], place: usize, draft: &[u8], n: usize, bytes: usize) -> Answer
+fn put_inside(mem: &mut [u8], place: usize, draft: &[u8], n: usize, bytes: usize) -> Answer
     requires { ⌜ (wellFormed (now mem) ≡ true) × (place < countIn (now mem)) × IsDraft (now draft) 0 n bytes ⌝ }
     ensures { λ r. ⌜ ((rows : List Row) → Drafted (now (draft .entry)) 0 n bytes rows
         → Ended (now (mem .entry)) (now (mem .exit)) r (appendAll (take place (decode (now (mem .entry)))) (rows ∷ drop (place + 1) (decode (now (mem .entry)))))) ⌝ }
@@ -131,21 +111,36 @@ fn replace_by(mem: &mut [u8], place: usize, draft: &[u8], n: usize, bytes: usize
     }
 }
 
-// Another declaration at a place, by its text.
-pub fn replace(mem: &mut [u8], place: usize, text: &[u8]) -> Answer
-    ensures { λ r. ⌜ (numbersOf r ≡ answerOf (replaced (now (mem .entry)) place (now (text .entry))))
-        × (now (mem .exit) ≡ memoryOf (now (mem .entry)) (replaced (now (mem .entry)) place (now (text .entry)))) ⌝ }
+// The rows of a draft at a place: one declaration more where the place is the count.
+fn put_rows(mem: &mut [u8], place: usize, draft: &[u8], n: usize, bytes: usize) -> Answer
+    requires { ⌜ (wellFormed (now mem) ≡ true) × (place ≤ countIn (now mem)) × (place < declarationLimit) × IsDraft (now draft) 0 n bytes ⌝ }
+    ensures { λ r. ⌜ ((rows : List Row) → Drafted (now (draft .entry)) 0 n bytes rows
+        → Ended (now (mem .entry)) (now (mem .exit)) r (appendAll (take place (decode (now (mem .entry)))) (rows ∷ drop (place + 1) (decode (now (mem .entry)))))) ⌝ }
+{
+    if declarations(mem) <= place {
+        return append(mem, draft, 0, n, bytes);
+    }
+    put_inside(mem, place, draft, n, bytes)
+}
+
+// A declaration at a place, by its text: another one there or, where the place is the count, one more.
+pub fn put(mem: &mut [u8], place: usize, text: &[u8]) -> Answer
+    ensures { λ r. ⌜ (numbersOf r ≡ answerOf (put (now (mem .entry)) place (now (text .entry))))
+        × (now (mem .exit) ≡ memoryOf (now (mem .entry)) (put (now (mem .entry)) place (now (text .entry)))) ⌝ }
 {
     if !well_formed(mem) {
         return refused(Why::NotWellFormed, place);
     }
-    if declarations(mem) <= place {
+    if declarations(mem) < place {
         return refused(Why::NoSuchPlace, place);
+    }
+    if Counts::DECLARATIONS <= place {
+        return refused(Why::TooManyDeclarations, Counts::DECLARATIONS);
     }
     let mut draft = [0u8; Layout::LENGTH];
     let read = read_text(text, &mut draft);
     match read {
         Walked::Bad(f) => Answer::Refused(f.placed(place)),
-        Walked::Read(c) => replace_by(mem, place, &draft, c.rows, c.string_bytes),
+        Walked::Read(c) => put_rows(mem, place, &draft, c.rows, c.string_bytes),
     }
 }

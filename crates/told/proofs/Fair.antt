@@ -1,16 +1,17 @@
--- Faults that are not 7 or tell where a string breaks its rule, and what is made of them.
+-- Faults that have a text's own number and, where it is 7, tell where a string breaks its rule; and what is made of them.
 -- Assumes nothing.
 use mathlib.Core.Path.{_≡_, refl, sym, ap, _∙_}
-use mathlib.Core.Bool.{Bool, true, false, cond}
+use mathlib.Core.Bool.{Bool, true, false, not, cond, _&&_}
 use mathlib.Core.List.{List, [], _∷_}
 use Prim.Native.Nat.{ℕ}
 use lib.Dec.{eqb}
+use borrow.Author.Tests.{not-true}
 use Rattle.answer.specs.declared.refusal.Why.{Why}
 use Rattle.answer.specs.declared.refusal.Why.the-variants.{NotAName}
 use Rattle.answer.specs.declared.refusal.Fault.{Fault}
 use Rattle.answer.specs.Numbers.{numberOf}
 use Rattle.ground.specs.Bytes.{byteAt}
-use Rattle.ground.proofs.Laws.{never}
+use Rattle.ground.proofs.Laws.{never, and-true}
 use Rattle.name.proofs.Begin.{Lettered, simple-lettered, name-lettered, namespace-lettered}
 use Rattle.row.specs.Rows.{Row}
 use Rattle.view.specs.declared.space.Spot.{Spot}
@@ -24,7 +25,7 @@ use Rattle.form.specs.Checks.{fault, must, _then_}
 use Rattle.form.specs.Spots.{onSpot}
 use Rattle.form.specs.Names.{notAName}
 use Rattle.schema.specs.Out.{Out, refused, read, rowsThen, andThen, after, each}
-use Rattle.told.specs.Told.{Rule, simple, name, namespace, keepsOf, Told}
+use Rattle.told.specs.Told.{Rule, simple, name, namespace, keepsOf, isOwn, Told}
 
 pub lettered : (r : Rule) → Lettered (keepsOf r)
 lettered simple = simple-lettered
@@ -37,11 +38,13 @@ not-seven w e h = never (sym e ∙ ap (λ (x : Why). eqb (numberOf x) 7) h)
 
 module _ (t : List ℕ) where
   abbrev pub Fair : Fault → Type 0
-  Fair f = f .why ≡ NotAName → Told t (f .at)
+  Fair f = (isOwn (numberOf (f .why)) ≡ true) × (f .why ≡ NotAName → Told t (f .at))
 
-  -- ---- a fault with another number
-  pub other : (w : Why) (q : ℕ) → eqb (numberOf w) 7 ≡ false → Fair (fault w q)
-  other w q e h = not-seven w e h
+  -- ---- a fault with another number than 7
+  pub other : (w : Why) (q : ℕ) → (isOwn (numberOf w) && not (eqb (numberOf w) 7)) ≡ true → Fair (fault w q)
+  other w q e =
+      let z = and-true (isOwn (numberOf w)) (not (eqb (numberOf w) 7)) e in
+      (z .0, not-seven w (not-true (eqb (numberOf w) 7) (z .1)))
 
   -- ---- checks
   abbrev pub FairCheck : Check → Type 0
@@ -52,14 +55,14 @@ module _ (t : List ℕ) where
   must-fair true f h = tt
   must-fair false f h = h refl
 
-  pub must-other : (b : Bool) (w : Why) (q : ℕ) → eqb (numberOf w) 7 ≡ false → FairCheck (must b (fault w q))
+  pub must-other : (b : Bool) (w : Why) (q : ℕ) → (isOwn (numberOf w) && not (eqb (numberOf w) 7)) ≡ true → FairCheck (must b (fault w q))
   must-other b w q e = must-fair b (fault w q) (λ _. other w q e)
 
   -- 7, for the string at q
   pub rule-fair : (r : Rule) (q : ℕ) → byteAt t q ≡ 34 → FairCheck (must (keepsOf r (stringAt t q)) (notAName (keepsOf r) t q))
   rule-fair r q o =
       must-fair (keepsOf r (stringAt t q)) (notAName (keepsOf r) t q)
-      (λ e h. record { rule = r; quote = q; opens = o; fails = e; breaks = breaks (lettered r) t q o e })
+      (λ e. (refl, λ h. record { rule = r; quote = q; opens = o; fails = e; breaks = breaks (lettered r) t q o e }))
 
   pub then-fair : (a b : Check) → FairCheck a → (a ≡ Fine → FairCheck b) → FairCheck (a then b)
   then-fair Fine b f g = g refl

@@ -1,6 +1,6 @@
--- THE LETTER: a text that is refused by 7 has a string that does not keep its rule for names, and the refusal stands where the string breaks it.
+-- THE LETTER: a text is refused by a number of its own; one that is refused by 7 has a string that does not keep its rule for names, and the refusal stands where the string breaks it.
 -- Assumes nothing.
-use mathlib.Core.Path.{_≡_, refl, sym, _∙_, subst}
+use mathlib.Core.Path.{_≡_, refl, sym, subst}
 use mathlib.Core.Bool.{Bool, true, false, cond}
 use mathlib.Core.List.{List, [], _∷_}
 use mathlib.Core.Logic.{⊎-elim}
@@ -10,6 +10,7 @@ use lib.ListN.{length}
 use Rattle.answer.specs.declared.refusal.Why.{Why}
 use Rattle.answer.specs.declared.refusal.Why.the-variants.{TextTooLong, NotJson, NestedTooDeep, NotAName}
 use Rattle.answer.specs.declared.refusal.Fault.{Fault}
+use Rattle.answer.specs.Numbers.{numberOf}
 use Rattle.json.specs.Json.{Mode, Stack, Move, go, die, step, whole, onward, run, verdict, scanned, longest}
 use Rattle.json.specs.Json as json
 use Rattle.json.specs.declared.verdict.Scan.{Scan}
@@ -20,7 +21,7 @@ use Rattle.form.specs.Forms.{mostNested}
 use Rattle.schema.specs.Out.{refused}
 use Rattle.schema.specs.Schema.{within, rowsOf, onScan, declared}
 use Rattle.view.specs.Values.{valueStart}
-use Rattle.told.specs.Told.{Told}
+use Rattle.told.specs.Told.{isOwn, Told}
 use Rattle.told.proofs.Fair.{Fair, other, FairOut}
 pub use Rattle.told.proofs.Fair.{lettered, not-seven}
 use Rattle.told.proofs.Rows.{schema-fair}
@@ -32,7 +33,7 @@ module _ (t : List ℕ) where
   FairScan (Bad f) = Fair t f
 
   by-reason : (w v : Why) (p : ℕ) → w ≡ v → Fair t (fault v p) → Fair t (fault w p)
-  by-reason w v p e g h = g (sym e ∙ h)
+  by-reason w v p e g = subst (λ (x : Why). Fair t (fault x p)) (sym e) g
 
   run-fair : (s : List ℕ) (m : Mode) (k : Stack) (p : ℕ) → FairScan (run m k p s)
   unfolding run
@@ -64,5 +65,8 @@ module _ (t : List ℕ) where
       on (Bad f) g = g
 
 -- whatever the text
+pub own : (t : List ℕ) (f : Fault) → declared t ≡ refused f → isOwn (numberOf (f .why)) ≡ true
+own t f e = subst (FairOut t) e (declared-fair t) .0
+
 pub told : (t : List ℕ) (f : Fault) → declared t ≡ refused f → f .why ≡ NotAName → Told t (f .at)
-told t f e = subst (FairOut t) e (declared-fair t)
+told t f e = subst (FairOut t) e (declared-fair t) .1

@@ -1,13 +1,18 @@
--- What a 7 tells of a text: which string breaks its rule, and where.
+-- What the refusal of a text tells of it: its number is one of a text's own, and a 7 tells which string breaks its rule, and where.
 -- Assumes nothing.
 use Prim.Native.Nat.{ℕ}
 use mathlib.Core.Path.{_≡_}
-use mathlib.Core.Bool.{Bool, false}
+use mathlib.Core.Bool.{Bool, false, _&&_, _||_}
 use mathlib.Core.List.{List}
+use lib.Dec.{eqb, ltb}
 use Rattle.ground.specs.Bytes.{byteAt}
 use Rattle.name.specs.Name.{isSimple, isName, isNamespace}
 use Rattle.view.specs.Strings.{stringAt}
 use Rattle.breach.specs.Breach.{BreaksAt}
+
+-- the numbers that document 01 has for what a text says by itself: 1 to 19, 27 and 28
+abbrev pub isOwn : ℕ → Bool
+isOwn n = (ltb 0 n && ltb n 20) || eqb n 27 || eqb n 28
 
 -- the rules: of fields, their aliases and symbols; of definitions, their aliases and references; of namespaces
 pub data Rule : Type 0 where

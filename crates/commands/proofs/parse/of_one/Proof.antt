@@ -6,25 +6,18 @@ use borrow.Author.Needs.{needs}
 use Rattle.commands.proofs.parse.of_one.Statement.{statement}
 use Rattle.commands.proofs.parse.of_one.Tie as tie
 
-takes-text-requires : tie.Need-takes-text-requires
-takes-text-requires c κs = search needs
+slice-aggregate-same : tie.Need-slice-aggregate-same
+slice-aggregate-same c = search needs
 
-enum-known-bytes : tie.Need-enum-known-bytes
-enum-known-bytes c = search needs
+same-requires : tie.Need-same-requires
+same-requires c κs = search needs
 
-of-text-requires : tie.Need-of-text-requires
-of-text-requires c κs = search needs
-
-enum-told : tie.Need-enum-told
-enum-told c = search needs
+scan-of-requires : tie.Need-scan-of-requires
+scan-of-requires c κs = search needs
 
 returns : tie.Need-returns
 unfolding ofOne
-returns c = c .of-text .ensures ∙ (rw (sym (c .before .before .before .before .before .takes-text .ensures) ∙ c .before .before .before .before .if1 .taken, c .before .before .bytes .given .1))
-
-returns-2 : tie.Need-returns-2
-unfolding ofOne
-returns-2 c = rw (sym (c .before .before .before .takes-text .ensures) ∙ c .before .before .if1 .taken, c .enum-told .given .1)
+returns c = c .scan-of .ensures ∙ (rw (sym (c .before .before .same .ensures) ∙ c .before .if1 .taken))
 
 enum-known-number : tie.Need-enum-known-number
 enum-known-number c = search needs
@@ -32,29 +25,27 @@ enum-known-number c = search needs
 of-number-requires : tie.Need-of-number-requires
 of-number-requires c κs = search needs
 
-enum-told-2 : tie.Need-enum-told-2
-enum-told-2 c = search needs
+enum-told : tie.Need-enum-told
+enum-told c = search needs
+
+returns-2 : tie.Need-returns-2
+unfolding ofOne
+returns-2 c = c .of-number .ensures ∙ (rw (sym (c .before .before .before .before .before .same .ensures) ∙ c .before .before .before .before .if1 .left, c .before .before .number .given .1))
 
 returns-3 : tie.Need-returns-3
 unfolding ofOne
-returns-3 c = c .of-number .ensures ∙ (rw (sym (c .before .before .before .before .before .takes-text .ensures) ∙ c .before .before .before .before .if1 .left, c .before .before .number .given .1))
-
-returns-4 : tie.Need-returns-4
-unfolding ofOne
-returns-4 c = rw (sym (c .before .before .before .takes-text .ensures) ∙ c .before .before .if1 .left, c .enum-told2 .given .1)
+returns-3 c = rw (sym (c .before .before .before .same .ensures) ∙ c .before .before .if1 .left, c .enum-told .given .1)
 
 pub of-one-spec : {M : Type 1} → statement M
 of-one-spec =
     tie.close
     (tie.spec
-    takes-text-requires
-    enum-known-bytes
-    of-text-requires
-    enum-told
+    slice-aggregate-same
+    same-requires
+    scan-of-requires
     returns
-    returns-2
     enum-known-number
     of-number-requires
-    enum-told-2
-    returns-3
-    returns-4)
+    enum-told
+    returns-2
+    returns-3)

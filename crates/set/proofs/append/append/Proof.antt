@@ -1,7 +1,7 @@
 -- `set::append::append` meets its contract.
 -- Assumes nothing.
 use Rattle.set.proofs.Places.{counts-asks}
-use Rattle.set.proofs.Appends.{rows-most, bytes-most, append-rows, append-strings, append-asks, put-asks, append-fault, append-done}
+use Rattle.set.proofs.Appends.{rows-most, bytes-most, append-rows, append-strings, append-asks, push-asks, append-fault, append-done}
 use borrow.Author.Needs.{needs}
 use native.Mathlib.Omega.{arith}
 use Rattle.set.proofs.append.append.Statement.{statement}
@@ -49,9 +49,9 @@ placed-requires c κs = search needs
 enum-told : tie.Need-enum-told
 enum-told c = search needs
 
-put-requires : tie.Need-put-requires
-put-requires c κs =
-    put-asks _ (c .before .before .before .before .before .before .before .before .before .before .before .before .before .pre .0) _ (c .before .before .before .before .before .before .before .before .before .counts .ensures) _ _ _ _ (c .before .before .before .before .before .before .before .if1 .left) (c .before .before .before .before .before .if2 .left) (c .before .before .before .before .before .before .before .before .before .before .before .before .before .pre .2) (c .before .before .before .before .before .before .before .before .before .before .before .before .before .pre .1)
+push-requires : tie.Need-push-requires
+push-requires c κs =
+    push-asks _ (c .before .before .before .before .before .before .before .before .before .before .before .before .before .pre .0) _ (c .before .before .before .before .before .before .before .before .before .counts .ensures) _ _ _ _ (c .before .before .before .before .before .before .before .if1 .left) (c .before .before .before .before .before .if2 .left) (c .before .before .before .before .before .before .before .before .before .before .before .before .before .pre .2) (c .before .before .before .before .before .before .before .before .before .before .before .before .before .pre .1)
 
 same-length-3 : tie.Need-same-length-3
 same-length-3 c = search needs
@@ -65,7 +65,7 @@ same-length-4 c = search needs
 
 returns-4 : tie.Need-returns-4
 returns-4 c =
-    λ rows d. append-done _ (c .before .before .before .before .before .before .before .before .before .before .before .before .before .before .before .before .pre .0) _ (c .before .before .before .before .before .before .before .before .before .before .before .before .counts .ensures) _ _ _ _ (c .before .before .before .before .before .before .before .before .before .before .if1 .left) (c .before .before .before .before .before .before .before .before .if2 .left) _ (c .before .before .before .before .before .before .first-fault .ensures) (c .before .before .before .before .before .before .before .before .before .before .before .before .before .before .before .before .pre .1) (c .before .before .before .before .enum-told .given .1) (c .before .before .put .ensures .0) (c .before .before .put .ensures .1) rows d
+    λ rows d. append-done _ (c .before .before .before .before .before .before .before .before .before .before .before .before .before .before .before .before .pre .0) _ (c .before .before .before .before .before .before .before .before .before .before .before .before .counts .ensures) _ _ _ _ (c .before .before .before .before .before .before .before .before .before .before .if1 .left) (c .before .before .before .before .before .before .before .before .if2 .left) _ (c .before .before .before .before .before .before .first-fault .ensures) (c .before .before .before .before .before .before .before .before .before .before .before .before .before .before .before .before .pre .1) (c .before .before .before .before .enum-told .given .1) (c .before .before .push .ensures .0) (c .before .before .push .ensures .1) rows d
 
 pub append-spec : {M : Type 1} → statement M
 append-spec =
@@ -84,7 +84,7 @@ append-spec =
     enum-known-names
     placed-requires
     enum-told
-    put-requires
+    push-requires
     same-length-3
     returns-3
     same-length-4

@@ -23,8 +23,8 @@ rows-of-requires : tie.Need-rows-of-requires Inv-loop μ-loop
 rows-of-requires c κs =
     place-asks _ (c .before .before .before .before .before .pre .0) (c .before .loop .i) (omega (arith, c .loop-test .taken, c .before .before .before .before .before .pre .1))
 
-put-requires : tie.Need-put-requires Inv-loop μ-loop
-put-requires c κs =
+push-requires : tie.Need-push-requires Inv-loop μ-loop
+push-requires c κs =
     copy-asks _ (c .before .before .before .before .before .before .before .pre .0) (c .before .before .before .loop .i) (omega (arith, c .before .before .loop-test .taken, c .before .before .before .before .before .before .before .pre .1)) _ (c .before .rows-of .ensures .0) _ _ (c .before .before .before .loop .inv .1)
 
 add-i : tie.Need-add-i Inv-loop μ-loop
@@ -35,7 +35,7 @@ loop-less c = search needs
 
 loop-again : tie.Need-loop-again Inv-loop μ-loop
 loop-again c =
-    (search needs, copied-more _ (c .before .before .before .before .before .before .before .before .before .before .pre .0) (c .before .before .before .before .before .before .loop .i) (omega (arith, c .before .before .before .before .before .loop-test .taken, c .before .before .before .before .before .before .before .before .before .before .pre .1)) _ (c .before .before .before .before .rows-of .ensures .0) _ _ (c .before .before .before .before .before .before .loop .inv .1) _ _ (c .before .before .put .ensures .0) (c .before .before .put .ensures .1))
+    (search needs, copied-more _ (c .before .before .before .before .before .before .before .before .before .before .pre .0) (c .before .before .before .before .before .before .loop .i) (omega (arith, c .before .before .before .before .before .loop-test .taken, c .before .before .before .before .before .before .before .before .before .before .pre .1)) _ (c .before .before .before .before .rows-of .ensures .0) _ _ (c .before .before .before .before .before .before .loop .inv .1) _ _ (c .before .before .push .ensures .0) (c .before .before .push .ensures .1))
 
 same-length : tie.Need-same-length Inv-loop μ-loop
 same-length c = copied-long _ (c .before .before .before .before .before .pre .0) _ _ _ (c .before .before .before .before .before .pre .2) (c .before .loop .inv .1)
@@ -44,4 +44,4 @@ returns : tie.Need-returns Inv-loop μ-loop
 returns c = copied-all _ _ _ (c .before .loop .inv .0) (c .loop-test .left) _ _ (c .before .loop .inv .1)
 
 pub copy-before-spec : {M : Type 1} → statement M
-copy-before-spec = tie.close (tie.spec Inv-loop μ-loop none-requires loop-holds rows-of-requires put-requires add-i loop-less loop-again same-length returns)
+copy-before-spec = tie.close (tie.spec Inv-loop μ-loop none-requires loop-holds rows-of-requires push-requires add-i loop-less loop-again same-length returns)

@@ -1,13 +1,13 @@
--- `set::calls::replace_by` meets its contract.
+-- `set::calls::put_inside` meets its contract.
 -- Assumes nothing.
 use mathlib.Core.Path.{refl, sym, _∙_}
 use Rattle.set.proofs.Places.{is-long}
 use Rattle.set.proofs.Rests.{place-few}
-use Rattle.set.proofs.CallLaws.{before-well, draft-asks, replace-first, behind-asks, replace-later, replace-done}
+use Rattle.set.proofs.CallLaws.{before-well, draft-asks, inside-first, behind-asks, inside-later, inside-done}
 use borrow.Author.Needs.{needs}
 use native.Mathlib.Omega.{arith}
-use Rattle.set.proofs.calls.replace_by.Statement.{statement}
-use Rattle.set.proofs.calls.replace_by.Tie as tie
+use Rattle.set.proofs.calls.put_inside.Statement.{statement}
+use Rattle.set.proofs.calls.put_inside.Tie as tie
 
 slice-aggregate-copy-before : tie.Need-slice-aggregate-copy-before
 slice-aggregate-copy-before c = search needs
@@ -31,7 +31,7 @@ same-length c = search needs
 
 returns : tie.Need-returns
 returns c =
-    replace-first _ (c .before .before .before .before .before .before .before .before .before .before .before .before .pre .0) _ (c .before .before .before .before .before .before .before .before .before .before .before .before .pre .1) _ (c .before .before .before .before .before .before .before .copy-before .ensures) _ _ _ _ _ (c .before .before .before .before .append .ensures) _ (c .before .a .given .1)
+    inside-first _ (c .before .before .before .before .before .before .before .before .before .before .before .before .pre .0) _ (c .before .before .before .before .before .before .before .before .before .before .before .before .pre .1) _ (c .before .before .before .before .before .before .before .copy-before .ensures) _ _ _ _ _ (c .before .before .before .before .append .ensures) _ (c .before .a .given .1)
 
 enum-told : tie.Need-enum-told
 enum-told c = search needs
@@ -66,17 +66,17 @@ same-length-2 c = search needs
 
 returns-2 : tie.Need-returns-2
 returns-2 c =
-    replace-later _ (c .before .before .before .before .before .before .before .before .before .before .before .before .before .before .before .before .before .before .pre .0) _ (c .before .before .before .before .before .before .before .before .before .before .before .before .before .before .before .before .before .before .pre .1) _ (c .before .before .before .before .before .before .before .before .before .before .before .before .before .copy-before .ensures) _ _ _ _ _ (c .before .before .before .before .before .before .before .before .before .before .append .ensures) _ (c .before .before .before .before .before .before .before .enum-told .given .1) _ _ (c .before .before .before .before .append-from .ensures) _ (c .before .b .given .1)
+    inside-later _ (c .before .before .before .before .before .before .before .before .before .before .before .before .before .before .before .before .before .before .pre .0) _ (c .before .before .before .before .before .before .before .before .before .before .before .before .before .before .before .before .before .before .pre .1) _ (c .before .before .before .before .before .before .before .before .before .before .before .before .before .copy-before .ensures) _ _ _ _ _ (c .before .before .before .before .before .before .before .before .before .before .append .ensures) _ (c .before .before .before .before .before .before .before .enum-told .given .1) _ _ (c .before .before .before .before .append-from .ensures) _ (c .before .b .given .1)
 
 same-length-3 : tie.Need-same-length-3
 same-length-3 c = search needs
 
 returns-3 : tie.Need-returns-3
 returns-3 c =
-    replace-done _ (c .before .before .before .before .before .before .before .before .before .before .before .before .before .before .before .before .before .before .before .before .before .before .before .pre .0) _ (c .before .before .before .before .before .before .before .before .before .before .before .before .before .before .before .before .before .before .before .before .before .before .before .pre .1) _ (c .before .before .before .before .before .before .before .before .before .before .before .before .before .before .before .before .before .before .copy-before .ensures) _ _ _ _ _ (c .before .before .before .before .before .before .before .before .before .before .before .before .before .before .before .append .ensures) _ (c .before .before .before .before .before .before .before .before .before .before .before .before .enum-told .given .1) _ _ (c .before .before .before .before .before .before .before .before .before .append-from .ensures) _ (c .before .before .before .before .before .before .b2 .given .1) (c .before .before .before .before .before .before .before .before .before .append-from .kept .0 ∙ is-long _ (behind-asks _ (c .before .before .before .before .before .before .before .before .before .before .before .before .before .before .before .before .before .before .before .before .before .before .before .pre .0) _ (c .before .before .before .before .before .before .before .before .before .before .before .before .before .before .before .before .before .before .before .before .before .before .before .pre .1) _ (c .before .before .before .before .before .before .before .before .before .before .before .before .before .before .before .before .before .before .copy-before .ensures) _ _ _ _ _ (c .before .before .before .before .before .before .before .before .before .before .before .before .before .before .before .append .ensures) _ (c .before .before .before .before .before .before .before .before .before .before .before .before .enum-told .given .1) (c .before .before .before .before .before .before .before .before .before .before .before .before .before .before .before .before .before .before .before .before .before .before .before .pre .2) .0)) _ (c .before .before .copy .ensures)
+    inside-done _ (c .before .before .before .before .before .before .before .before .before .before .before .before .before .before .before .before .before .before .before .before .before .before .before .pre .0) _ (c .before .before .before .before .before .before .before .before .before .before .before .before .before .before .before .before .before .before .before .before .before .before .before .pre .1) _ (c .before .before .before .before .before .before .before .before .before .before .before .before .before .before .before .before .before .before .copy-before .ensures) _ _ _ _ _ (c .before .before .before .before .before .before .before .before .before .before .before .before .before .before .before .append .ensures) _ (c .before .before .before .before .before .before .before .before .before .before .before .before .enum-told .given .1) _ _ (c .before .before .before .before .before .before .before .before .before .append-from .ensures) _ (c .before .before .before .before .before .before .b2 .given .1) (c .before .before .before .before .before .before .before .before .before .append-from .kept .0 ∙ is-long _ (behind-asks _ (c .before .before .before .before .before .before .before .before .before .before .before .before .before .before .before .before .before .before .before .before .before .before .before .pre .0) _ (c .before .before .before .before .before .before .before .before .before .before .before .before .before .before .before .before .before .before .before .before .before .before .before .pre .1) _ (c .before .before .before .before .before .before .before .before .before .before .before .before .before .before .before .before .before .before .copy-before .ensures) _ _ _ _ _ (c .before .before .before .before .before .before .before .before .before .before .before .before .before .before .before .append .ensures) _ (c .before .before .before .before .before .before .before .before .before .before .before .before .enum-told .given .1) (c .before .before .before .before .before .before .before .before .before .before .before .before .before .before .before .before .before .before .before .before .before .before .before .pre .2) .0)) _ (c .before .before .copy .ensures)
 
-pub replace-by-spec : {M : Type 1} → statement M
-replace-by-spec =
+pub put-inside-spec : {M : Type 1} → statement M
+put-inside-spec =
     tie.close
     (tie.spec
     slice-aggregate-copy-before
