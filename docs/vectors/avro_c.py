@@ -1,5 +1,5 @@
 #!/usr/bin/env python3
-"""Which of the texts of crates/schema_run/stdin avro-c accepts, beside the model of replay.py adding each to an empty set.
+"""Which of the texts of crates/schema_run/stdin avro-c accepts, beside the model of replay.py that puts each into an empty set.
 
     gcc -O2 -o target/avro_c docs/vectors/avro_c.c -lavro
     python3 docs/vectors/avro_c.py target/avro_c        (at the root of the repository; `list` behind it prints the texts)
@@ -19,7 +19,7 @@ def run(command, script):
 def main(program, show):
     texts = open("crates/schema_run/stdin").read().split("\n")[:-1]
     theirs = run([program], "".join(t + "\n" for t in texts))
-    ours = run([sys.executable, os.path.join(HERE, "replay.py")], "".join("open\nadd %s\n" % t for t in texts))[1::2]
+    ours = run([sys.executable, os.path.join(HERE, "replay.py")], "".join("open\nput 0 %s\n" % t for t in texts))[1::2]
     count = collections.Counter()
     for text, we, they in zip(texts, ours, theirs):
         we = "ok" if we.startswith("ok") else "refused " + we.split()[1]

@@ -399,7 +399,7 @@ def ours(text):
     """(canonical text, fingerprint), or (`refused`, number)."""
     machine = replay.Machine()
     try:
-        machine.add(text)
+        machine.put(0, text)
     except replay.No as n:
         return "refused", n.args[0]
     c = replay.canonical(replay.decoded(machine.memory)[0])

@@ -1,6 +1,6 @@
 #!/usr/bin/env python3
 """Holds crates/declare/stdout, what the program for people prints, to the model of replay.py: each declaration of crates/declare/stdin (a JSON text
-sequence) is added in turn, and its block must have the model's place, rows, canonical text and fingerprint, or the refusal with its line and column.
+sequence) is put at the count in turn, and its block must have the model's place, rows, canonical text and fingerprint, or the refusal with its line and column.
 
 Behind the line and column of a refusal that has a byte stand a piece of the text's line and a caret under the byte. The piece begins with four
 columns, blank or `... `, and then has the line from its beginning, or from 60 bytes before the position where that is later; each byte is one column. Behind
@@ -80,14 +80,14 @@ def accepted(number, place, before, block):
 def main():
     texts = [t for t in open("crates/declare/stdin", "rb").read().split(b"\x1e") if t.strip()]
     blocks = open("crates/declare/stdout").read().split("\n\n")
-    script = ["open"] + ["add " + t.hex() for t in texts]
-    answers = model(script)[1:]
-    place = 0
-    for i, (text, answer, block) in enumerate(zip(texts, answers, blocks)):
+    script, place = ["open"], 0
+    for i, (text, block) in enumerate(zip(texts, blocks)):
+        script.append("put %d %s" % (place, text.hex()))
+        answer = model(script)[-1]
         if answer.startswith("refused"):
             wanted = refused(i + 1, text, answer, block)
         else:
-            wanted = accepted(i + 1, place, script[:i + 2], block)
+            wanted = accepted(i + 1, place, script, block)
             place += 1
         for w in wanted:
             assert w in block, (w, block)

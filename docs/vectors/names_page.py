@@ -27,8 +27,8 @@ def blocks(page):
 
 
 def line_of(call):
-    word, rest = call.split(" ", 1)
-    return call if word == "name" else "add " + rest.encode().hex()
+    word, place, rest = call.split(" ", 2)
+    return call if word == "name" else "%s %s %s" % (word, place, rest.encode().hex())
 
 
 def said(call, answer):
@@ -36,7 +36,7 @@ def said(call, answer):
     words = answer.split(" ")
     if words[0] == "refused":
         return "refused %s, place %s, byte %s" % tuple(words[1:])
-    return "ok" if call.startswith("add") else bytes.fromhex(words[1]).decode()
+    return "ok" if call.startswith("put") else bytes.fromhex(words[1]).decode()
 
 
 def main(folder):

@@ -3,15 +3,14 @@
 
     python3 docs/vectors/replay.py < script > answers
 
-Written from document 01 (its sections Rabin, Numbers returned, The set and Canonical text) and docs/LAYOUT.md. Texts are read by
-declaration.py; whether memory is a well-formed set is decided by wellformed.py. The lines of a script:
+Written from document 01 (its sections Rabin, Numbers returned, The set and Canonical text), request A4 of 02 and docs/LAYOUT.md. Texts
+are read by declaration.py; whether memory is a well-formed set is decided by wellformed.py. The lines of a script:
 
     memory N                    the calls are lent the first N bytes of memory from now on; ok
     fill BYTE                   every byte of memory is set to BYTE; ok
     poke AT HEX                 bytes are written into memory at AT; ok
     open                        ok DECLARATIONS ROWS BYTES, or refused NUMBER PLACE POSITION
-    add HEX                     the same
-    replace PLACE HEX           the same
+    put PLACE HEX               the same
     name PLACE ROW              ok HEX, or refused ..
     canonical PLACE OFFSET ROOM ok LENGTH HEX, or refused .. HEX: into a buffer of ROOM bytes, each 170 before; HEX is all of it
     fingerprint PLACE           ok SIGNED HEX, or refused ..
@@ -19,7 +18,7 @@ declaration.py; whether memory is a well-formed set is decided by wellformed.py.
     scan HEX                    ok, or refused NUMBER 0 POSITION
     digest                      digest HEX: the fingerprint of the bytes lent
 
-Numbers are decimal, bytes are in lowercase hexadecimal digits, no bytes are `-`. Any other line is answered `what?`.
+Numbers are decimal and below 2^64, bytes are in lowercase hexadecimal digits, no bytes are `-`. Any other line is answered `what?`.
 """
 import os
 import re
@@ -35,6 +34,7 @@ from declaration import Refused, Row
 
 LENGTH, MOST_DECLARATIONS = 51266, 32
 MEMORY, MOST_ROOM, UNTOUCHED = LENGTH + 64, 131072, 170
+MOST_NUMBER = 2 ** 64 - 1
 
 
 # ---- Rabin
@@ -240,22 +240,17 @@ class Machine:
         self.memory[:LENGTH] = bytes(LENGTH)
         return (0, 0, 0)
 
-    def add(self, text):
-        ds = well_formed(self.lent(), 0)
-        if len(ds) == MOST_DECLARATIONS:
-            raise No(22, MOST_DECLARATIONS, 0)
-        return self.keep(ds + [rows_of_text(text, len(ds))], len(ds))
-
-    def replace(self, place, text):
+    def put(self, place, text):
+        """The text's rows become the declaration at the place; the place equal to the count is a new one."""
         ds = well_formed(self.lent(), place)
-        if place >= len(ds):
+        if place > len(ds):
             raise No(21, place, 0)
-        return self.keep(ds[:place] + [rows_of_text(text, place)] + ds[place + 1:], place)
-
-    def keep(self, declarations, place):
-        check_from(declarations, place)
-        self.memory[:LENGTH] = encoded(declarations)
-        return counts(declarations)
+        if place == len(ds) == MOST_DECLARATIONS:
+            raise No(22, MOST_DECLARATIONS, 0)
+        after = ds[:place] + [rows_of_text(text, place)] + ds[place + 1:]
+        check_from(after, place)
+        self.memory[:LENGTH] = encoded(after)
+        return counts(after)
 
     def name(self, place, row):
         rows = at_place(self.lent(), place)
@@ -289,7 +284,7 @@ class Machine:
             return ["what?"]
         given = []
         for kind, w in zip(f[0], words[1:]):
-            if kind == "n" and re.fullmatch("[0-9]+", w):
+            if kind == "n" and re.fullmatch("[0-9]+", w) and int(w) <= MOST_NUMBER:
                 given.append(int(w))
             elif kind == "h" and (w == "-" or re.fullmatch("([0-9a-f]{2})+", w)):
                 given.append(b"" if w == "-" else bytes.fromhex(w))
@@ -321,11 +316,8 @@ class Machine:
     def do_open(self):
         return ["ok %d %d %d" % self.open()]
 
-    def do_add(self, text):
-        return ["ok %d %d %d" % self.add(text)]
-
-    def do_replace(self, place, text):
-        return ["ok %d %d %d" % self.replace(place, text)]
+    def do_put(self, place, text):
+        return ["ok %d %d %d" % self.put(place, text)]
 
     def do_name(self, place, row):
         return ["ok " + hexed(self.name(place, row))]
@@ -354,9 +346,9 @@ class Machine:
         return ["digest " + lowest_first(self.digest()).hex()]
 
 
-LINES = {"memory": ("n", Machine.do_memory), "fill": ("n", Machine.do_fill), "poke": ("nh", Machine.do_poke), "open": ("", Machine.do_open), "add": ("h", Machine.do_add),
-         "replace": ("nh", Machine.do_replace), "name": ("nn", Machine.do_name), "canonical": ("nnn", Machine.do_canonical), "fingerprint": ("n", Machine.do_fingerprint),
-         "rows": ("n", Machine.do_rows), "scan": ("h", Machine.do_scan), "digest": ("", Machine.do_digest)}
+LINES = {"memory": ("n", Machine.do_memory), "fill": ("n", Machine.do_fill), "poke": ("nh", Machine.do_poke), "open": ("", Machine.do_open), "put": ("nh", Machine.do_put),
+         "name": ("nn", Machine.do_name), "canonical": ("nnn", Machine.do_canonical), "fingerprint": ("n", Machine.do_fingerprint), "rows": ("n", Machine.do_rows),
+         "scan": ("h", Machine.do_scan), "digest": ("", Machine.do_digest)}
 
 
 def main():
