@@ -1,4 +1,4 @@
-/* Thirty declarations of 0.5 to 2 KB, six modules from each of five compilers, opened and added to one set and fingerprinted, beside avro-c, where it is
+/* Thirty declarations of 0.5 to 2 KB, six modules from each of five compilers, opened and put into one set and fingerprinted, beside avro-c, where it is
    installed, reading the same texts one by one. */
 #include <string.h>
 #include "texts.h"
@@ -10,7 +10,7 @@
 
 enum { COMPILERS = 5, MODULES = 6, TEXTS = COMPILERS * MODULES, SHORTEST = 512, LONGEST = 2048 };
 
-extern uint64_t bench_add(uint8_t *memory, size_t length, const uint8_t *text, size_t text_length);
+extern uint64_t bench_put(uint8_t *memory, size_t length, size_t place, const uint8_t *text, size_t text_length);
 extern uint64_t bench_canonical(const uint8_t *memory, size_t length, size_t place, uint8_t *buffer, size_t room);
 extern int64_t bench_fingerprint(const uint8_t *bytes, size_t length);
 
@@ -105,12 +105,12 @@ static size_t make_all(void) {
 static uint8_t memory[LENGTH];
 
 /* The rows of the set, 0 where a text is refused. */
-static uint64_t added(const uint8_t *bytes, size_t length) {
+static uint64_t put_all(const uint8_t *bytes, size_t length) {
     uint64_t rows = 0;
     (void)length;
     memset(memory, 0, LENGTH);
     for (unsigned i = 0; i < TEXTS; i++) {
-        rows = bench_add(memory, LENGTH, bytes + starts[i], starts[i + 1] - starts[i]);
+        rows = bench_put(memory, LENGTH, i, bytes + starts[i], starts[i + 1] - starts[i]);
         if (!rows) return 0;
     }
     return rows;
@@ -118,7 +118,7 @@ static uint64_t added(const uint8_t *bytes, size_t length) {
 
 static uint64_t fingerprinted(const uint8_t *bytes, size_t length) {
     static uint8_t canonical[82000];
-    uint64_t all = added(bytes, length);
+    uint64_t all = put_all(bytes, length);
     for (unsigned i = 0; i < TEXTS; i++) {
         size_t n = bench_canonical(memory, LENGTH, i, canonical, sizeof canonical);
         all ^= (uint64_t)bench_fingerprint(canonical, n);
@@ -169,7 +169,7 @@ static void measure(const char *name, work ours, size_t length) {
 
 int main(void) {
     size_t length = make_all();
-    uint64_t rows = added(texts, length);
+    uint64_t rows = put_all(texts, length);
     printf("noon: %d texts, %zu bytes, %llu rows\n", TEXTS, length, (unsigned long long)rows);
     if (!rows) {
         printf("a text is refused\n");
@@ -178,7 +178,7 @@ int main(void) {
 #ifdef AVRO
     if (avro_c(texts, length) != TEXTS) printf("avro-c refuses a text\n");
 #endif
-    measure("opened and added", added, length);
-    measure("opened, added and fingerprinted", fingerprinted, length);
+    measure("opened and put", put_all, length);
+    measure("opened, put and fingerprinted", fingerprinted, length);
     return 0;
 }

@@ -9,8 +9,7 @@
 
 extern uint64_t bench_declare(const uint8_t *text, size_t length, uint8_t *draft, size_t room);
 extern bool bench_well_formed(const uint8_t *memory, size_t length);
-extern uint64_t bench_add(uint8_t *memory, size_t length, const uint8_t *text, size_t text_length);
-extern uint64_t bench_replace(uint8_t *memory, size_t length, size_t place, const uint8_t *text, size_t text_length);
+extern uint64_t bench_put(uint8_t *memory, size_t length, size_t place, const uint8_t *text, size_t text_length);
 extern uint64_t bench_canonical(const uint8_t *memory, size_t length, size_t place, uint8_t *buffer, size_t room);
 
 enum { LONGEST = 32768, NAMES = 9000, ALIKE = 16 };
@@ -23,8 +22,8 @@ static struct set before, after;
 
 static uint64_t declare(void) { return bench_declare(text, text_length, after.bytes, LENGTH); }
 static uint64_t check(void) { return bench_well_formed(after.bytes, LENGTH); }
-static uint64_t add(void) { return bench_add(after.bytes, LENGTH, text, text_length); }
-static uint64_t replace(void) { return bench_replace(after.bytes, LENGTH, 0, text, text_length); }
+static uint64_t put_last(void) { return bench_put(after.bytes, LENGTH, after.declarations, text, text_length); }
+static uint64_t put_first(void) { return bench_put(after.bytes, LENGTH, 0, text, text_length); }
 static uint64_t canonical(void) { return bench_canonical(after.bytes, LENGTH, 0, buffer, sizeof buffer); }
 
 /* ---- times */
@@ -458,13 +457,13 @@ static void full_sets(void) {
     row(&before, INT, 0, "");
     definitions(1022);
     text_length = (size_t)sprintf((char *)text, "\"int\"");
-    measure("replace, in front of 1,022 definitions", LENGTH, replace);
+    measure("put, in front of 1,022 definitions", LENGTH, put_first);
     fresh();
     definitions(600);
     name_count = 0;
     for (unsigned i = 600; i < 1022; i++) keep(alike(i, ALIKE));
     list("[", "{\"type\":\"fixed\",\"name\":\"%s\",\"size\":1}", "]");
-    measure("add, 422 definitions behind 600", text_length, add);
+    measure("put, 422 definitions behind 600", text_length, put_last);
 }
 
 int main(void) {

@@ -21,18 +21,18 @@ extern "C" {
 size_t dhokyurai_memory_length(void);
 
 /* Makes memory of that length the empty set, whatever it held.
- * Here and in add and replace, where accepted: *a, *b, *c are how many declarations, rows and string bytes the set has.
+ * Here and in put, where accepted: *a, *b, *c are how many declarations, rows and string bytes the set has.
  * Where refused: *a is the declaration's place in the set, *b the byte position in its text, *c is 0. Of a string that is no name
  * (7) *b is the first character or escape after which no name can follow, or the closing quote where it ends too soon. */
 uint8_t dhokyurai_open(uint8_t *memory, size_t memory_length, size_t *a, size_t *b, size_t *c);
 
-/* Adds the declaration that the text holds, at the set's end. */
-uint8_t dhokyurai_add(uint8_t *memory, size_t memory_length, const uint8_t *text, size_t text_length, size_t *a, size_t *b, size_t *c);
-
-/* Puts the text in the place of an existing declaration. Answer and memory are those of adding the edited list of texts to an empty
- * set, one by one. No row or string before the place moves. */
-uint8_t dhokyurai_replace(uint8_t *memory, size_t memory_length, size_t place, const uint8_t *text, size_t text_length, size_t *a,
-                          size_t *b, size_t *c);
+/* Puts the declaration that the text holds at a place of the set, from 0: in place of the one that stands there, or, where the place is the
+ * count of declarations (*a of the last accepted call), as one more at the set's end. Answer and memory are those of putting the edited
+ * list of texts one by one at the end of an empty set. No row or string before the place moves.
+ * 20 has the place asked for. 21 is for places above the count, and no others; 22 for the place 32 of a set of 32, and no other.
+ * (In earlier versions there were dhokyurai_add, which is put at the count, and dhokyurai_replace, which is put below it.) */
+uint8_t dhokyurai_put(uint8_t *memory, size_t memory_length, size_t place, const uint8_t *text, size_t text_length, size_t *a, size_t *b,
+                      size_t *c);
 
 /* The full name of a row, by its declaration's place and its number there, from 0: of a definition, its alias or a reference. It is
  * stored from the buffer's start on, as far as there is room; 255 bytes hold any. Where accepted *a is its length, at least 1.

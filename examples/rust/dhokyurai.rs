@@ -4,10 +4,7 @@ mod c {
     extern "C" {
         pub fn dhokyurai_memory_length() -> usize;
         pub fn dhokyurai_open(memory: *mut u8, length: usize, a: *mut usize, b: *mut usize, c: *mut usize) -> u8;
-        pub fn dhokyurai_add(
-            memory: *mut u8, length: usize, text: *const u8, text_length: usize, a: *mut usize, b: *mut usize, c: *mut usize,
-        ) -> u8;
-        pub fn dhokyurai_replace(
+        pub fn dhokyurai_put(
             memory: *mut u8, length: usize, place: usize, text: *const u8, text_length: usize, a: *mut usize, b: *mut usize, c: *mut usize,
         ) -> u8;
         pub fn dhokyurai_full_name(
@@ -39,10 +36,11 @@ pub struct Counts {
     pub string_bytes: usize,
 }
 
-/// A set of declarations.
+/// A set of declarations, and how many they are.
 #[derive(Clone)]
 pub struct Set {
     memory: Vec<u8>,
+    count: usize,
 }
 
 fn told(number: u8, place: usize, position: usize) -> Result<(), Refusal> {
@@ -66,29 +64,26 @@ impl Set {
         // SAFETY: the vector has as many bytes as are said, and the numbers are its own.
         let mut memory = vec![0; unsafe { c::dhokyurai_memory_length() }];
         unsafe { c::dhokyurai_open(memory.as_mut_ptr(), memory.len(), &mut a, &mut b, &mut c) };
-        Set { memory }
+        Set { memory, count: a }
     }
 
-    /// Adds the declaration that the text holds, at the set's end.
-    pub fn add(&mut self, text: &[u8]) -> Result<Counts, Refusal> {
+    /// How many declarations the set has: the place at which `put` puts one more.
+    pub fn count(&self) -> usize {
+        self.count
+    }
+
+    /// Puts the declaration that the text holds at a place: in place of the one that stands there, or at the set's end where the place is the count.
+    pub fn put(&mut self, place: usize, text: &[u8]) -> Result<Counts, Refusal> {
         let (mut a, mut b, mut c) = (0, 0, 0);
         // SAFETY: pointers and lengths are those of one vector and one slice, which cannot overlap.
         let number = unsafe {
-            c::dhokyurai_add(self.memory.as_mut_ptr(), self.memory.len(), text.as_ptr(), text.len(), &mut a, &mut b, &mut c)
-        };
-        counted(number, a, b, c)
-    }
-
-    /// Puts the text in the place of an existing declaration.
-    pub fn replace(&mut self, place: usize, text: &[u8]) -> Result<Counts, Refusal> {
-        let (mut a, mut b, mut c) = (0, 0, 0);
-        // SAFETY: as in `add`.
-        let number = unsafe {
-            c::dhokyurai_replace(
+            c::dhokyurai_put(
                 self.memory.as_mut_ptr(), self.memory.len(), place, text.as_ptr(), text.len(), &mut a, &mut b, &mut c,
             )
         };
-        counted(number, a, b, c)
+        let counts = counted(number, a, b, c)?;
+        self.count = counts.declarations;
+        Ok(counts)
     }
 
     /// The full name of a row: of a definition, its alias or a reference.

@@ -1,4 +1,5 @@
-//! The same as examples/c/main.c: adds two declarations, prints the canonical text and the fingerprint of each, and shows a refusal.
+//! The same as examples/c/main.c: puts two declarations at the end of a set, prints the canonical text and the fingerprint of each, shows a refusal, and
+//! puts another one in place of the second.
 
 mod dhokyurai;
 
@@ -13,16 +14,14 @@ const TEXTS: [&str; 3] = [
 fn main() -> Result<(), Refusal> {
     let mut set = Set::new();
     for text in TEXTS {
-        match set.add(text.as_bytes()) {
+        let place = set.count();
+        match set.put(place, text.as_bytes()) {
             Err(r) => println!("refusal {}: declaration {}, byte {}", r.number, r.place, r.position),
-            Ok(counts) => {
-                let place = counts.declarations - 1;
-                println!("{}: {} {}", place, set.canonical(place)?, set.fingerprint(place)?);
-            }
+            Ok(_) => println!("{}: {} {}", place, set.canonical(place)?, set.fingerprint(place)?),
         }
     }
     println!("row 1 of declaration 1 is named {}", set.full_name(1, 1)?);
-    let text = set.replace(1, b"\"link.Assembly\"").and_then(|_| set.canonical(1));
-    debug_assert_eq!(text.as_deref(), Ok("\"link.Assembly\""));
+    let counts = set.put(1, b"\"link.Assembly\"")?;
+    println!("{} declarations, {} rows", counts.declarations, counts.rows);
     Ok(())
 }
