@@ -14,7 +14,7 @@ static struct set before, work_set;
 static size_t at_place;
 
 /* Each call begins with the same set; the copy is timed with both sides. */
-static uint64_t put(const uint8_t *text, size_t length) {
+static uint64_t put_text(const uint8_t *text, size_t length) {
     memcpy(work_set.bytes, before.bytes, LENGTH);
     return bench_put(work_set.bytes, LENGTH, at_place, text, length);
 }
@@ -27,11 +27,11 @@ static uint64_t parts(const uint8_t *text, size_t length) {
 
 static void measure(const char *name, size_t place, const uint8_t *text, size_t length) {
     at_place = place;
-    if (!put(text, length)) {
+    if (!put_text(text, length)) {
         printf("%s is refused\n", name);
         return;
     }
-    compare(name, put, parts, text, length);
+    compare(name, put_text, parts, text, length);
 }
 
 int main(void) {
