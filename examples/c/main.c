@@ -34,7 +34,8 @@ int main(void) {
     uint8_t name[255];
     if (dhokyurai_full_name(memory, length, 1, 1, name, sizeof name, &a, &b)) return 1;
     printf("row 1 of declaration 1 is named %.*s\n", (int)a, (const char *)name);
-    if (dhokyurai_put(memory, length, 1, (const uint8_t *)"\"link.Assembly\"", 15, &a, &b, &c)) return 1;
+    const char *other = "\"link.Assembly\"";
+    if (dhokyurai_put(memory, length, 1, (const uint8_t *)other, strlen(other), &a, &b, &c)) return 1;
     printf("%zu declarations, %zu rows\n", a, b);
     free(memory);
     return 0;

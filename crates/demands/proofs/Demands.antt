@@ -34,7 +34,7 @@ use Rattle.demands.proofs.Steps.{edit-last}
 use Rattle.demands.proofs.Holding.{refused-leaves, put-kept, opened-formed, opened-empty, opened-length, held-formed, built-holds, held-answer, held-memory, held-nowhere, held-is, accepted-built}
 use Rattle.demands.proofs.Joined.{accepts-only, accepts-if}
 use Rattle.demands.proofs.Staying.{put-front, put-later}
-use Rattle.demands.proofs.Letter.{formed-said, formed-only, nowhere-said, nowhere-only, full-said, full-only, put-tells}
+use Rattle.demands.proofs.Refusals.{formed-said, formed-only, nowhere-said, nowhere-only, full-said, full-only, put-tells}
 use Rattle.demands.proofs.Named.{full-formed, name-of, nameless-if, nameless-only, nameless-said, calls-agree, start-of, apart, set-row}
 use Rattle.demands.proofs.Fitting.{row-fits}
 

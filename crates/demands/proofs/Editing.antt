@@ -12,7 +12,7 @@ use Rattle.row.specs.Rows.{Row}
 use Rattle.resolve.specs.WellFormed.{Good}
 use Rattle.schema.specs.Out.{Out, refused, read}
 use Rattle.schema.specs.Schema.{declared}
-use Rattle.set.specs.Lists.{Result, becomes, refuses, next, onRows, append, appendAll, putIn}
+use Rattle.set.specs.Lists.{Result, becomes, next, onRows, append, appendAll, putIn}
 use Rattle.demands.specs.Building.{edit}
 use Rattle.demands.proofs.Steps.{becomes-inj, read-inj, next-done, next-same, next-next, append-done, last-full, last-is, last-done, put-good}
 
@@ -50,14 +50,6 @@ pub run-append : (ds : List (List Row)) (ts us : List (List ℕ)) → putAll ds 
 unfolding putAll
 run-append ds [] us = refl
 run-append ds (t ∷ ts) us = next-same (putIn ds (length ds) t) _ _ (λ d e. run-append d ts us) ∙ sym (next-next (putIn ds (length ds) t) (λ d. putAll d ts) (λ d. putAll d us))
-
-pub run-one : (ds : List (List Row)) (t : List ℕ) → putAll ds (t ∷ []) ≡ putIn ds (length ds) t
-unfolding putAll
-run-one ds t = go (putIn ds (length ds) t)
-  where
-    go : (x : Result) → next x (λ d. becomes d) ≡ x
-    go (becomes d) = refl
-    go (refuses r) = refl
 
 pub record Ran (ds : List (List Row)) (ts : List (List ℕ)) (d : List (List Row)) : Type 0 where
   pub rows : List (List Row)

@@ -24,7 +24,8 @@ use Rattle.row.proofs.Laws.{decode-encode}
 use Rattle.resolve.specs.WellFormed.{Good, wellFormed}
 use Rattle.resolve.proofs.Laws.{exact, encode-good, good-within, none-good}
 use Rattle.set.specs.Lists.{Result, becomes, refuses, refuse, next, putIn}
-use Rattle.set.specs.Calls.{answerOf, memoryOf, onSet, opened, put}
+use Rattle.set.specs.Calls.{answerOf, memoryOf, opened, put}
+use Rattle.set.proofs.Laws.{put-formed}
 use Rattle.demands.specs.Building.{Outcome, outcome, isDone, emptySet, putEach, edit, ifDone, Built, opens, puts}
 use Rattle.demands.proofs.Steps.{becomes-inj, not-both, must-hold, edit-last, last-done, put-good}
 use Rattle.demands.proofs.Editing.{putAll, run-done, run-good, reads-length, edit-law}
@@ -52,14 +53,6 @@ refused-leaves m x e = ap (memoryOf m) (refused-refuses x e .1)
 -- ---- calls on well-formed memory
 
 module _ (m : List ℕ) (wf : wellFormed m ≡ true) where
-  pub on-formed : (place : ℕ) (change : List (List Row) → Result) → onSet m place change ≡ change (decode m)
-  unfolding onSet
-  on-formed place change = rw wf
-
-  pub put-formed : (place : ℕ) (t : List ℕ) → put m place t ≡ putIn (decode m) place t
-  unfolding put
-  put-formed place t = on-formed place (λ ds. putIn ds place t)
-
   -- what a call keeps of well-formed memory
   kept-by : (x : Result) → ((d : List (List Row)) → x ≡ becomes d → Good d) → wellFormed (memoryOf m x) ≡ true
   unfolding memoryOf
@@ -67,7 +60,7 @@ module _ (m : List ℕ) (wf : wellFormed m ≡ true) where
   kept-by (refuses r) h = wf
 
   pub put-kept : (place : ℕ) (t : List ℕ) → wellFormed (memoryOf m (put m place t)) ≡ true
-  put-kept place t = kept-by (put m place t) (λ d e. put-good (decode m) place t d (exact m wf .1) (sym (put-formed place t) ∙ e))
+  put-kept place t = kept-by (put m place t) (λ d e. put-good (decode m) place t d (exact m wf .1) (sym (put-formed m wf place t) ∙ e))
 
 -- ---- open
 

@@ -14,9 +14,10 @@ use Rattle.resolve.specs.WellFormed.{wellFormed}
 use Rattle.resolve.proofs.Laws.{exact, good-within}
 use Rattle.set.specs.Lists.{becomes, putIn}
 use Rattle.set.specs.Calls.{answerOf, memoryOf, put}
+use Rattle.set.proofs.Laws.{put-formed}
 use Rattle.demands.specs.Building.{Joins}
 use Rattle.demands.proofs.Steps.{put-good}
-use Rattle.demands.proofs.Holding.{done-becomes, put-formed}
+use Rattle.demands.proofs.Holding.{done-becomes}
 use Rattle.demands.proofs.Joining.{join-only, join-if}
 
 module _ (m : List ℕ) (wf : wellFormed m ≡ true) (text : List ℕ) where

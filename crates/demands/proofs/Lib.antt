@@ -7,5 +7,5 @@ mod Joining
 mod Joined
 mod Staying
 mod Named
-mod Letter
+mod Refusals
 mod Fitting

@@ -26,9 +26,10 @@ use Rattle.schema.specs.Out.{Out, refused, read}
 use Rattle.schema.specs.Schema.{declared}
 use Rattle.set.specs.Lists.{Result, becomes, refuses, refuse, next, onRows, append, appendAll, putIn}
 use Rattle.set.specs.Calls.{answerOf, memoryOf, put}
+use Rattle.set.proofs.Laws.{put-formed}
 use Rattle.demands.specs.Building.{edit, At, first, behind, SameFront, LaterBarred}
 use Rattle.demands.proofs.Steps.{not-both, append-done, put-done, put-good}
-use Rattle.demands.proofs.Holding.{done-becomes, refused-refuses, put-formed}
+use Rattle.demands.proofs.Holding.{done-becomes, refused-refuses}
 use Rattle.demands.proofs.Joining.{append-barred}
 
 -- ---- bytes

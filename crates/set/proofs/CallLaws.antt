@@ -57,16 +57,15 @@ module _ (m : List ℕ) where
   unfolding opened setCounts flat texts
   open-done h p q = both (ended-done m [] (rw (eq-eqb (length m) layoutLength h)) p (q ∙ ap zeros h ∙ sym encode-none))
 
--- ---- a set
+-- ---- put, by whether memory is well formed
 
-module _ (m : List ℕ) (place : ℕ) (change : List (List Row) → Result) where
-  set-not : wellFormed m ≡ false → onSet m place change ≡ refuse NotWellFormed place 0
-  unfolding onSet
-  set-not w = rw w
+pub put-unformed : (m : List ℕ) → wellFormed m ≡ false → (place : ℕ) (t : List ℕ) → put m place t ≡ refuse NotWellFormed place 0
+unfolding put onSet
+put-unformed m w place t = rw w
 
-  set-well : wellFormed m ≡ true → onSet m place change ≡ change (decode m)
-  unfolding onSet
-  set-well w = rw w
+pub put-formed : (m : List ℕ) → wellFormed m ≡ true → (place : ℕ) (t : List ℕ) → put m place t ≡ putIn (decode m) place t
+unfolding put onSet
+put-formed m w place t = rw w
 
 -- ---- rows put before the last declaration's end
 
@@ -140,28 +139,27 @@ module _ (m : List ℕ) (w : wellFormed m ≡ true) (place : ℕ) {n : ℕ} (e :
 
 module _ (m : List ℕ) (place : ℕ) (t : List ℕ) where
   pub put-not : wellFormed m ≡ false → {r : Answer} → r ≡ Refused (record { why = NotWellFormed; place = place; at = 0 }) → (numbersOf r ≡ answerOf (put m place t)) × (m ≡ memoryOf m (put m place t))
-  unfolding put
-  put-not w g = no-both m g (set-not m place (λ ds. putIn ds place t) w)
+  put-not w g = no-both m g (put-unformed m w place t)
 
   module _ (w : wellFormed m ≡ true) (n : ℕ) (e : n ≡ countIn m) where
     pub put-nowhere : n < place → {r : Answer} → r ≡ Refused (record { why = NoSuchPlace; place = place; at = 0 }) → (numbersOf r ≡ answerOf (put m place t)) × (m ≡ memoryOf m (put m place t))
-    unfolding put putIn
-    put-nowhere h g = no-both m g (set-well m place (λ ds. putIn ds place t) w ∙ rw (← is-count m w, ← e, lt-ltb n place h))
+    unfolding putIn
+    put-nowhere h g = no-both m g (put-formed m w place t ∙ rw (← is-count m w, ← e, lt-ltb n place h))
 
     module _ (l : place ≤ n) where
       pub put-many : declarationLimit ≤ place → {r : Answer} → r ≡ Refused (record { why = TooManyDeclarations; place = declarationLimit; at = 0 })
           → (numbersOf r ≡ answerOf (put m place t)) × (m ≡ memoryOf m (put m place t))
-      unfolding put putIn
+      unfolding putIn
       put-many h g =
           let k : declarationLimit < place + 1 = omega arith in
-          no-both m g (set-well m place (λ ds. putIn ds place t) w ∙ rw (← is-count m w, ← e, le-ltb n place l, lt-ltb declarationLimit (place + 1) k))
+          no-both m g (put-formed m w place t ∙ rw (← is-count m w, ← e, le-ltb n place l, lt-ltb declarationLimit (place + 1) k))
 
       module _ (few : place < declarationLimit) where
         put-is : put m place t ≡ onRows (declared t) place (λ rows. appendAll (take place (decode m)) (rows ∷ drop (place + 1) (decode m)))
-        unfolding put putIn
+        unfolding putIn
         put-is =
             let k : place + 1 ≤ declarationLimit = omega arith in
-            set-well m place (λ ds. putIn ds place t) w ∙ rw (← is-count m w, ← e, le-ltb n place l, le-ltb declarationLimit (place + 1) k)
+            put-formed m w place t ∙ rw (← is-count m w, ← e, le-ltb n place l, le-ltb declarationLimit (place + 1) k)
 
         module _ {d : List ℕ} {walked : Walked} (did : Wrote d walked (declared t)) where
           pub put-bad : {f : Fault} → walked ≡ Bad f → {r : Refusal} → r ≡ placed f place → (numbersOf (Refused r) ≡ answerOf (put m place t)) × (m ≡ memoryOf m (put m place t))

@@ -1,6 +1,5 @@
 -- `set::names::name_at` meets its contract.
 -- Assumes nothing.
-use mathlib.Core.Path.{sym, _∙_}
 use Rattle.set.proofs.Places.{is-long}
 use Rattle.set.proofs.NameLaws.{none-place, rows-asks, none-row, before-asks, row-asks, is-name}
 use borrow.Author.Needs.{needs}

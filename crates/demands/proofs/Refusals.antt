@@ -31,9 +31,9 @@ use Rattle.schema.specs.Out as out
 use Rattle.schema.specs.Schema.{declared}
 use Rattle.set.specs.Lists.{Result, becomes, refuses, refuse, next, onRows, onResolved, append, appendAll, putIn}
 use Rattle.set.specs.Calls.{answerOf, onSet, put}
+use Rattle.set.proofs.Laws.{put-unformed, put-formed}
 use Rattle.told.specs.Told.{isOwn, Told}
 use Rattle.told.proofs.Told.{own, told, not-seven}
-use Rattle.demands.proofs.Holding.{put-formed}
 
 -- 20, 21 and 22
 abbrev isAsked : ℕ → Bool
@@ -164,8 +164,8 @@ module _ (m : List ℕ) (place : ℕ) (text : List ℕ) where
   no-asked (refuses r) g n h f = never (sym (g .asked) ∙ ap isAsked h ∙ f)
 
   pub formed-said : wellFormed m ≡ false → answerOf (put m place text) ≡ refused 20 place 0
-  unfolding put onSet answerOf
-  formed-said e = rw e
+  unfolding answerOf
+  formed-said e = ap answerOf (put-unformed m e place text)
 
   pub formed-only : answerOf (put m place text) .number ≡ 20 → wellFormed m ≡ false
   formed-only h = go (asked m place text)
