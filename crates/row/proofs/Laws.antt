@@ -14,7 +14,7 @@ use Rattle.answer.specs.Limits.{countsOf, noCounts}
 use Rattle.ground.specs.Bytes.{part, same}
 use Rattle.ground.proofs.Laws.{and-true, same-true, same-refl}
 use Rattle.row.specs.Layout.{declarationLimit, rowLimit, stringLimit, headerSize, rowSize, rowsStart, rowsSize, stringsStart, layoutLength}
-use Rattle.row.specs.Rows.{Row, allFit, texts, textStart}
+use Rattle.row.specs.Rows.{Row, stringsOf, allFit, texts, textStart}
 use Rattle.row.specs.Sets.{isWithin, isEncoding, flat, sizes, zeros, pack, encode, countIn, sizesIn, rowsFrom, decode, Within}
 use Rattle.row.specs.Memory.{fromRow, rowAt, textPlace, sizeAt, rowsBefore, stringsBefore, countsIn, setCounts, most, counted, hasRoom, written, pushed, countedAll, pushedAll, declared}
 use Rattle.row.proofs.RowLaws.{texts-append}
@@ -78,7 +78,7 @@ module _ (ds : List (List Row)) (w : Within ds) where
 
   pub strings-encode : (n : ℕ) → n ≤ length (flat ds) → stringsBefore (encode ds) n ≡ length (texts (take n (flat ds)))
   unfolding encode
-  strings-encode n h = strings-of (sizes ds) (flat ds) n few (w .rows) (w .strings) h
+  strings-encode n h = strings-of (sizes ds) (flat ds) n few (w .rows) (w .strings) (w .numbers) h
 
   -- THE SET COMES BACK
   pub decode-encode : decode (encode ds) ≡ ds
@@ -125,12 +125,12 @@ encode-none = pack-none
 pub counted-append : (c : Counts) (a b : List Row) → countedAll c (a ++ b) ≡ countedAll (countedAll c a) b
 unfolding countedAll
 counted-append c [] b = refl
-counted-append c (r ∷ a) b = counted-append (counted c (length (r .text))) a b
+counted-append c (r ∷ a) b = counted-append (counted c (length (stringsOf r))) a b
 
 pub pushed-append : (m : List ℕ) (c : Counts) (a b : List Row) → pushedAll m c (a ++ b) ≡ pushedAll (pushedAll m c a) (countedAll c a) b
 unfolding pushedAll countedAll
 pushed-append m c [] b = refl
-pushed-append m c (r ∷ a) b = pushed-append (pushed m c r) (counted c (length (r .text))) a b
+pushed-append m c (r ∷ a) b = pushed-append (pushed m c r) (counted c (length (stringsOf r))) a b
 
 -- rows and string bytes are counted, past the limits too
 pub counted-all : (rs : List Row) (d n o : ℕ) → n ≤ most → o ≤ most → countedAll (countsOf d n o) rs ≡ countsOf d (min (n + length rs) most) (min (o + length (texts rs)) most)
@@ -141,8 +141,8 @@ counted-all [] d n o h k =
     rw (p, q)
 counted-all (r ∷ rs) d n o h k =
     let p : min (min (n + 1) most + length rs) most ≡ min (n + suc (length rs)) most = omega arith in
-    let q : min (min (o + length (r .text)) most + length (texts rs)) most ≡ min (o + length (r .text ++ texts rs)) most = omega (arith, length-append (r .text) (texts rs)) in
-    counted-all rs d (min (n + 1) most) (min (o + length (r .text)) most) (omega arith) (omega arith) ∙ ap₂ (λ (x y : ℕ). countsOf d x y) p q
+    let q : min (min (o + length (stringsOf r)) most + length (texts rs)) most ≡ min (o + length (stringsOf r ++ texts rs)) most = omega (arith, length-append (stringsOf r) (texts rs)) in
+    counted-all rs d (min (n + 1) most) (min (o + length (stringsOf r)) most) (omega arith) (omega arith) ∙ ap₂ (λ (x y : ℕ). countsOf d x y) p q
 
 pub counted-small : (rs : List Row) (d n o : ℕ) → n + length rs ≤ most → o + length (texts rs) ≤ most → countedAll (countsOf d n o) rs ≡ countsOf d (n + length rs) (o + length (texts rs))
 counted-small rs d n o h k =
@@ -151,10 +151,10 @@ counted-small rs d n o h k =
     counted-all rs d n o (omega arith) (omega arith) ∙ ap₂ (λ (x y : ℕ). countsOf d x y) p q
 
 -- ONE ROW PUSHED onto a set, behind whose rows the rows of a declaration to come may lie
-pub push-pack : (cs : List ℕ) (rs : List Row) (r : Row) (d : ℕ) → length cs ≤ declarationLimit → length rs < rowLimit → length (texts rs) + length (r .text) ≤ stringLimit
+pub push-pack : (cs : List ℕ) (rs : List Row) (r : Row) (d : ℕ) → length cs ≤ declarationLimit → length rs < rowLimit → length (texts rs) + length (stringsOf r) ≤ stringLimit
     → pushed (pack cs rs) (countsOf d (length rs) (length (texts rs))) r ≡ pack cs (rs ++ (r ∷ []))
 unfolding pushed hasRoom written
-push-pack cs rs r d few fit room = rw (lt-ltb (length rs) rowLimit fit, le-leb (length (texts rs) + length (r .text)) stringLimit room) (write-row cs rs r few fit room)
+push-pack cs rs r d few fit room = rw (lt-ltb (length rs) rowLimit fit, le-leb (length (texts rs) + length (stringsOf r)) stringLimit room) (write-row cs rs r few fit room)
 
 -- MANY
 pub push-all : (cs : List ℕ) (rs more : List Row) (d : ℕ) → length cs ≤ declarationLimit → length (rs ++ more) ≤ rowLimit → length (texts (rs ++ more)) ≤ stringLimit
@@ -165,12 +165,12 @@ push-all cs rs (r ∷ more) d few fit room =
     let one : List Row = rs ++ (r ∷ []) in
     let e : one ++ more ≡ rs ++ (r ∷ more) = append-assoc rs (r ∷ []) more in
     let n : length one ≡ length rs + 1 = length-append rs (r ∷ []) in
-    let t : texts one ≡ texts rs ++ r .text = texts-append rs (r ∷ []) ∙ ap (λ (x : List ℕ). texts rs ++ x) (append-nil (r .text)) in
-    let k : length (texts one) ≡ length (texts rs) + length (r .text) = ap length t ∙ length-append (texts rs) (r .text) in
+    let t : texts one ≡ texts rs ++ stringsOf r = texts-append rs (r ∷ []) ∙ ap (λ (x : List ℕ). texts rs ++ x) (append-nil (stringsOf r)) in
+    let k : length (texts one) ≡ length (texts rs) + length (stringsOf r) = ap length t ∙ length-append (texts rs) (stringsOf r) in
     let fit′ : length rs + suc (length more) ≤ rowLimit = omega (arith, length-append rs (r ∷ more)) in
     let j : length (texts (rs ++ (r ∷ more))) ≡ length (texts one) + length (texts more) = ap (λ (x : List Row). length (texts x)) (sym e) ∙ ap length (texts-append one more) ∙ length-append (texts one) (texts more) in
     let p : min (length rs + 1) most ≡ length one = omega arith in
-    let q : min (length (texts rs) + length (r .text)) most ≡ length (texts one) = omega arith in
+    let q : min (length (texts rs) + length (stringsOf r)) most ≡ length (texts one) = omega arith in
     rw (p, q, push-pack cs rs r d few (omega arith) (omega arith))
     (push-all cs one more d few (rw e fit) (rw e room) ∙ ap (pack cs) e)
 

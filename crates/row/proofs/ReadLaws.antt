@@ -14,9 +14,9 @@ use Rattle.ground.specs.Bytes.{part}
 use Rattle.row.specs.Kinds.{kindNumber, kindOf}
 use Rattle.row.specs.Numbers.{le, number}
 use Rattle.row.specs.Layout.{rowSize, rowsStart, stringLimit, stringsStart, layoutLength}
-use Rattle.row.specs.Rows.{entryOf, textOf, textStart, textLength}
+use Rattle.row.specs.Rows.{entryOf, textOf, textStart, textLength, defaultOf, defaultLength, stringsLength}
 use Rattle.row.specs.Sets.{sum, wordsOf, countIn, sizesIn}
-use Rattle.row.specs.Memory.{fromRow, entryAt, textAt, textPlace, behind, sizeAt, rowsBefore, textEnd, stringsBefore, countsIn}
+use Rattle.row.specs.Memory.{fromRow, entryAt, textAt, defaultAt, textPlace, defaultPlace, behind, sizeAt, rowsBefore, textEnd, stringsBefore, countsIn}
 use Rattle.row.specs.declared.kind.Kind.{Kind}
 use Rattle.row.specs.declared.Entry.{Entry}
 use Rattle.row.proofs.NumberLaws.{number-one}
@@ -101,6 +101,13 @@ read-text m x i b n p q e =
     let l = length-drop stringsStart m in
     e ∙ rw (take-all (length m - stringsStart) (drop stringsStart m) (omega arith), p, q)
 
+pub read-default : (m x : List ℕ) (i b k n : ℕ) → b ≡ textStart (fromRow m i) → k ≡ textLength (fromRow m i) → n ≡ defaultLength (fromRow m i) → x ≡ part (take (length m - stringsStart) (drop stringsStart m)) (b + k) n
+    → x ≡ defaultAt m i
+unfolding defaultAt defaultOf
+read-default m x i b k n p q s e =
+    let l = length-drop stringsStart m in
+    e ∙ rw (take-all (length m - stringsStart) (drop stringsStart m) (omega arith), p, q, s)
+
 -- and where it lies: a part of a part is a part
 pub lies : (p : ℕ × ℕ) {a b : ℕ} → a ≡ b → behind p a ≡ behind p b
 lies p e = ap (behind p) e
@@ -113,11 +120,20 @@ text-lies m i b p q l e h =
     let k : min b (length (take (length m - stringsStart) (drop stringsStart m))) + (stringsStart + p .1) ≡ stringsStart + min (textStart (fromRow m i)) stringLimit + p .1 = rw (n, e) (omega arith) in
     h ∙ ap (λ (x : ℕ). (p .0, x)) k
 
+pub default-lies : (m : List ℕ) (i b k : ℕ) (p q : ℕ × ℕ) → length m ≡ layoutLength → b ≡ textStart (fromRow m i) → k ≡ textLength (fromRow m i)
+    → q ≡ behind (behind p stringsStart) (min (b + k) (length (take (length m - stringsStart) (drop stringsStart m)))) → q ≡ behind p (defaultPlace m i)
+unfolding defaultPlace
+default-lies m i b k p q l e f h =
+    let n : length (take (length m - stringsStart) (drop stringsStart m)) ≡ stringLimit = length-take (length m - stringsStart) (drop stringsStart m) ∙ omega (arith, length-drop stringsStart m) in
+    let j : min (b + k) (length (take (length m - stringsStart) (drop stringsStart m))) + (stringsStart + p .1) ≡ stringsStart + min (textStart (fromRow m i) + textLength (fromRow m i)) stringLimit + p .1
+    = rw (n, e, f) (omega arith) in
+    h ∙ ap (λ (x : ℕ). (p .0, x)) j
+
 pub no-rows : (m : List ℕ) (n : ℕ) → n ≡ 0 → 0 ≡ stringsBefore m n
 unfolding stringsBefore
 no-rows m n e = rw (eq-eqb n 0 e)
 
-pub some-rows : (m : List ℕ) (n b k : ℕ) → (n ≡ 0 → ⊥) → b ≡ textStart (fromRow m (n - 1)) → k ≡ textLength (fromRow m (n - 1)) → b + k ≡ stringsBefore m n
+pub some-rows : (m : List ℕ) (n b k : ℕ) → (n ≡ 0 → ⊥) → b ≡ textStart (fromRow m (n - 1)) → k ≡ stringsLength (fromRow m (n - 1)) → b + k ≡ stringsBefore m n
 unfolding stringsBefore textEnd
 some-rows m n b k h p q = rw (ne-eqb n 0 h, p, q)
 

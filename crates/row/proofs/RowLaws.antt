@@ -3,11 +3,11 @@
 use mathlib.Core.Path.{_≡_, refl, sym, ap, ap₂, _∙_}
 use mathlib.Core.Bool.{Bool, true, false, cond}
 use mathlib.Core.List.{List, [], _∷_, _++_, append-assoc}
-use Prim.Native.Nat.{ℕ, _+_, _*_, _^_, _<_}
+use Prim.Native.Nat.{ℕ, zero, suc, _+_, _*_, _^_, _<_}
 use native.Mathlib.Nat.{add-zero}
 use native.Mathlib.Omega.{arith}
 use lib.Dec.{eqb, ltb}
-use lib.ListN.{length, length-append}
+use lib.ListN.{length, getD, length-append}
 use lib.Seq.{drop-at}
 use borrow.Author.Tests.{ltb-true, ne-eqb}
 use Rattle.ground.specs.Bytes.{part}
@@ -16,7 +16,7 @@ use Rattle.row.specs.Kinds.{kindNumber, kindOf}
 use Rattle.ground.specs.Numbers.{lowFirst}
 use Rattle.row.specs.Numbers.{le}
 use Rattle.row.specs.Layout.{rowSize}
-use Rattle.row.specs.Rows.{Row, rowOf, fits, allFit, encodeFront, encodeRow, encodeRows, texts, entryOf, textStart, textLength, textOf, rowsOf}
+use Rattle.row.specs.Rows.{Row, rowWith, stringsOf, fits, allFit, encodeFront, encodeRow, encodeRows, texts, entryOf, textStart, textOf, defaultOf, stringsLength, rowsOf}
 use Rattle.row.specs.declared.kind.Kind.{Kind}
 use Rattle.row.specs.declared.kind.Kind.the-variants.{Null, Boolean, Int, Long, Float, Double, Bytes, String, Reference, Array, Map, Union, Record, Enum, Fixed, Field, Symbol, Alias, FieldAlias}
 use Rattle.row.proofs.NumberLaws.{le-one, le-bytes}
@@ -90,11 +90,15 @@ pub record Fits (r : Row) : Type 0 where
   pub note : r .note < 2 ^ 8
   pub precision : r .precision < 2 ^ 64
   pub scale : r .scale < 2 ^ 64
+  pub text : length (r .text) < 2 ^ 8
+  pub default : length (r .default) < 2 ^ 8
 
 pub fits-true : (r : Row) → fits r ≡ true → Fits r
 unfolding fits
 fits-true r e =
-    let a = and-true _ (ltb (r .scale) (2 ^ 64)) e in
+    let h = and-true _ (ltb (length (r .default)) (2 ^ 8)) e in
+    let g = and-true _ (ltb (length (r .text)) (2 ^ 8)) (h .0) in
+    let a = and-true _ (ltb (r .scale) (2 ^ 64)) (g .0) in
     let b = and-true _ (ltb (r .precision) (2 ^ 64)) (a .0) in
     let c = and-true _ (ltb (r .note) (2 ^ 8)) (b .0) in
     let d = and-true _ (ltb (r .size) (2 ^ 64)) (c .0) in
@@ -106,66 +110,84 @@ fits-true r e =
       note = ltb-true _ _ (c .1);
       precision = ltb-true _ _ (b .1);
       scale = ltb-true _ _ (a .1);
+      text = ltb-true _ _ (g .1);
+      default = ltb-true _ _ (h .1);
     }
+
+pub length-strings : (r : Row) → length (stringsOf r) ≡ length (r .text) + length (r .default)
+unfolding stringsOf
+length-strings r = length-append (r .text) (r .default)
 
 pub length-row : (o : ℕ) (r : Row) → length (encodeRow o r) ≡ rowSize
 unfolding encodeRow encodeFront lowFirst
 length-row o r = refl
 
--- its string: p is what lies before it in the string area, y what lies behind
-pub text-back : (o : ℕ) (r : Row) (x p y : List ℕ) → length p ≡ o → o < 2 ^ 16 → length (r .text) < 2 ^ 16 → textOf (p ++ (r .text ++ y)) (encodeRow o r ++ x) ≡ r .text
-unfolding textOf encodeRow encodeFront lowFirst part
-text-back o r x p y e h k =
+-- its strings: p is what lies before them in the string area, y what lies behind
+text-back : (o : ℕ) (r : Row) (x p y : List ℕ) → length p ≡ o → o < 2 ^ 16 → Fits r → textOf (p ++ (stringsOf r ++ y)) (encodeRow o r ++ x) ≡ r .text
+unfolding textOf stringsOf encodeRow encodeFront lowFirst part
+text-back o r x p y e h g =
     let a : le (lowFirst 2 o) ≡ o = le-bytes 2 o h in
-    let b : le (lowFirst 2 (length (r .text))) ≡ length (r .text) = le-bytes 2 _ k in
-    rw (a, b) (part-mid p (r .text) y o (length (r .text)) e refl)
+    let b : le (lowFirst 1 (length (r .text))) ≡ length (r .text) = le-bytes 1 _ (g .text) in
+    rw (a, b, append-assoc (r .text) (r .default) y) (part-mid p (r .text) (r .default ++ y) o (length (r .text)) e refl)
 
-pub row-back : (o : ℕ) (r : Row) (x p y : List ℕ) → length p ≡ o → o < 2 ^ 16 → length (r .text) < 2 ^ 16 → fits r ≡ true → rowOf (entryOf (encodeRow o r ++ x)) (textOf (p ++ (r .text ++ y)) (encodeRow o r ++ x)) ≡ r
+default-back : (o : ℕ) (r : Row) (x p y : List ℕ) → length p ≡ o → o < 2 ^ 16 → Fits r → defaultOf (p ++ (stringsOf r ++ y)) (encodeRow o r ++ x) ≡ r .default
+unfolding defaultOf stringsOf encodeRow encodeFront lowFirst part
+default-back o r x p y e h g =
+    let a : le (lowFirst 2 o) ≡ o = le-bytes 2 o h in
+    let b : le (lowFirst 1 (length (r .text))) ≡ length (r .text) = le-bytes 1 _ (g .text) in
+    let c : le (lowFirst 1 (length (r .default))) ≡ length (r .default) = le-bytes 1 _ (g .default) in
+    let k : p ++ ((r .text ++ r .default) ++ y) ≡ (p ++ r .text) ++ (r .default ++ y) = simp append-assoc in
+    rw (a, b, c, k) (part-mid (p ++ r .text) (r .default) y (o + length (r .text)) (length (r .default)) (length-append p (r .text) ∙ omega arith) refl)
+
+pub row-back : (o : ℕ) (r : Row) (x p y : List ℕ) → length p ≡ o → o < 2 ^ 16 → fits r ≡ true
+    → rowWith (entryOf (encodeRow o r ++ x)) (textOf (p ++ (stringsOf r ++ y)) (encodeRow o r ++ x)) (defaultOf (p ++ (stringsOf r ++ y)) (encodeRow o r ++ x)) ≡ r
 unfolding entryOf encodeRow encodeFront lowFirst part
-row-back o r x p y e h k f =
-    let t = text-back o r x p y e h k in
+row-back o r x p y e h f =
     let g = fits-true r f in
+    let t = text-back o r x p y e h g in
+    let d = default-back o r x p y e h g in
     let kind = ap kindOf (le-one (kindNumber (r .kind))) ∙ kind-back (r .kind) in
     λ i. record {
       kind = kind i;
       depth = le-bytes 2 (r .depth) (g .depth) i;
       position = le-bytes 2 (r .position) (g .position) i;
       text = t i;
+      default = d i;
       size = le-bytes 8 (r .size) (g .size) i;
       note = le-one (r .note) i;
       precision = le-bytes 8 (r .precision) (g .precision) i;
       scale = le-bytes 8 (r .scale) (g .scale) i;
     }
 
--- where its string begins
+-- where its strings begin
 pub start-back : (o : ℕ) (r : Row) (x : List ℕ) → o < 2 ^ 16 → textStart (encodeRow o r ++ x) ≡ o
 unfolding encodeRow encodeFront lowFirst part
 start-back o r x h = le-bytes 2 o h
 
--- where its string ends
-pub end-back : (o : ℕ) (r : Row) (x : List ℕ) → o < 2 ^ 16 → length (r .text) < 2 ^ 16 → textStart (encodeRow o r ++ x) + textLength (encodeRow o r ++ x) ≡ o + length (r .text)
+-- how long they are
+pub long-back : (o : ℕ) (r : Row) (x : List ℕ) → Fits r → stringsLength (encodeRow o r ++ x) ≡ length (stringsOf r)
 unfolding encodeRow encodeFront lowFirst part
-end-back o r x h k = ap₂ _+_ (le-bytes 2 o h) (le-bytes 2 (length (r .text)) k)
+long-back o r x g = ap₂ _+_ (le-bytes 1 (length (r .text)) (g .text)) (le-bytes 1 (length (r .default)) (g .default)) ∙ sym (length-strings r)
 
 -- ---- many rows
 
 pub length-rows : (o : ℕ) (rs : List Row) → length (encodeRows o rs) ≡ rowSize * length rs
 unfolding encodeRows
 length-rows o [] = refl
-length-rows o (r ∷ rs) = length-append (encodeRow o r) (encodeRows (o + length (r .text)) rs) ∙ omega (arith, length-row o r, length-rows (o + length (r .text)) rs)
+length-rows o (r ∷ rs) = length-append (encodeRow o r) (encodeRows (o + length (stringsOf r)) rs) ∙ omega (arith, length-row o r, length-rows (o + length (stringsOf r)) rs)
 
 pub texts-append : (a b : List Row) → texts (a ++ b) ≡ texts a ++ texts b
 unfolding texts
 texts-append [] b = refl
-texts-append (r ∷ a) b = ap (λ (x : List ℕ). r .text ++ x) (texts-append a b) ∙ sym (append-assoc (r .text) (texts a) (texts b))
+texts-append (r ∷ a) b = ap (λ (x : List ℕ). stringsOf r ++ x) (texts-append a b) ∙ sym (append-assoc (stringsOf r) (texts a) (texts b))
 
 pub rows-append : (o : ℕ) (a b : List Row) → encodeRows o (a ++ b) ≡ encodeRows o a ++ encodeRows (o + length (texts a)) b
 unfolding encodeRows texts
 rows-append o [] b = rw add-zero
 rows-append o (r ∷ a) b =
-    let n : o + length (r .text) + length (texts a) ≡ o + length (r .text ++ texts a) = omega (arith, length-append (r .text) (texts a)) in
-    ap (λ (x : List ℕ). encodeRow o r ++ x) (rows-append (o + length (r .text)) a b ∙ ap (λ (k : ℕ). encodeRows (o + length (r .text)) a ++ encodeRows k b) n)
-    ∙ sym (append-assoc (encodeRow o r) (encodeRows (o + length (r .text)) a) _)
+    let n : o + length (stringsOf r) + length (texts a) ≡ o + length (stringsOf r ++ texts a) = omega (arith, length-append (stringsOf r) (texts a)) in
+    ap (λ (x : List ℕ). encodeRow o r ++ x) (rows-append (o + length (stringsOf r)) a b ∙ ap (λ (k : ℕ). encodeRows (o + length (stringsOf r)) a ++ encodeRows k b) n)
+    ∙ sym (append-assoc (encodeRow o r) (encodeRows (o + length (stringsOf r)) a) _)
 
 pub fit-append : (a b : List Row) → allFit (a ++ b) ≡ true → (allFit a ≡ true) × (allFit b ≡ true)
 unfolding allFit
@@ -180,18 +202,24 @@ unfolding allFit
 fit-both [] b p q = q
 fit-both (r ∷ a) b p q = let s = and-true (fits r) (allFit a) p in and-intro (fits r) (allFit (a ++ b)) (s .0) (fit-both a b (s .1) q)
 
+pub fit-at : (rs : List Row) (i : ℕ) (d : Row) → i < length rs → allFit rs ≡ true → fits (getD rs i d) ≡ true
+unfolding allFit
+fit-at [] i d l e = absurd (omega arith)
+fit-at (r ∷ rs) zero d l e = and-true (fits r) (allFit rs) e .0
+fit-at (r ∷ rs) (suc i) d l e = fit-at rs i d (omega arith) (and-true (fits r) (allFit rs) e .1)
+
 -- p is what lies in the string area before their strings, y what lies behind
 pub rows-back : (rs : List Row) (o : ℕ) (x p y : List ℕ) → length p ≡ o → o + length (texts rs) < 2 ^ 16 → allFit rs ≡ true → rowsOf (p ++ (texts rs ++ y)) (length rs) (encodeRows o rs ++ x) ≡ rs
 unfolding rowsOf encodeRows texts allFit
 rows-back [] o x p y e h f = refl
 rows-back (r ∷ rs) o x p y e h f =
-    let n : ℕ = o + length (r .text) in
+    let n : ℕ = o + length (stringsOf r) in
     let l : List ℕ = encodeRows n rs ++ x in
     let s = and-true (fits r) (allFit rs) f in
-    let a = length-append (r .text) (texts rs) in
-    let g : (p ++ r .text) ++ (texts rs ++ y) ≡ p ++ ((r .text ++ texts rs) ++ y) = simp append-assoc in
-    let k : p ++ (r .text ++ (texts rs ++ y)) ≡ p ++ ((r .text ++ texts rs) ++ y) = simp append-assoc in
+    let a = length-append (stringsOf r) (texts rs) in
+    let g : (p ++ stringsOf r) ++ (texts rs ++ y) ≡ p ++ ((stringsOf r ++ texts rs) ++ y) = simp append-assoc in
+    let k : p ++ (stringsOf r ++ (texts rs ++ y)) ≡ p ++ ((stringsOf r ++ texts rs) ++ y) = simp append-assoc in
     rw (append-assoc (encodeRow o r) (encodeRows n rs) x, drop-at (encodeRow o r) l rowSize (length-row o r))
     (ap₂ (λ (z : Row) (zs : List Row). z ∷ zs)
-    (rw k at (row-back o r l p (texts rs ++ y) e (omega arith) (omega arith) (s .0)))
-    (rw g at (rows-back rs n x (p ++ r .text) y (length-append p (r .text) ∙ omega arith) (omega arith) (s .1))))
+    (rw k at (row-back o r l p (texts rs ++ y) e (omega arith) (s .0)))
+    (rw g at (rows-back rs n x (p ++ stringsOf r) y (length-append p (stringsOf r) ∙ omega arith) (omega arith) (s .1))))

@@ -14,11 +14,11 @@ use Rattle.ground.proofs.Laws.{part-front, part-mid, store-seam}
 use Rattle.ground.specs.Numbers.{lowFirst}
 use Rattle.row.specs.Numbers.{le, number}
 use Rattle.row.specs.Layout.{declarationLimit, rowLimit, stringLimit, headerSize, rowSize, rowsStart, rowsSize, stringsStart, layoutLength}
-use Rattle.row.specs.Rows.{Row, allFit, encodeRow, encodeRows, texts, textStart, rowsOf}
+use Rattle.row.specs.Rows.{Row, stringsOf, allFit, encodeRow, encodeRows, texts, textStart, rowsOf}
 use Rattle.row.specs.Sets.{flat, sizes, sum, words, zeros, filled, pack, wordsOf, countIn, sizesIn, rowsFrom, split}
 use Rattle.row.proofs.NumberLaws.{length-bytes, le-bytes}
-use Rattle.row.specs.Memory.{fromRow, entryAt, textAt, rowAt, sizeAt, stringsBefore, textEnd}
-use Rattle.row.proofs.RowLaws.{start-back, end-back, length-row, length-rows, rows-append, texts-append, rows-back, fit-append}
+use Rattle.row.specs.Memory.{fromRow, entryAt, textAt, defaultAt, rowAt, sizeAt, stringsBefore, textEnd}
+use Rattle.row.proofs.RowLaws.{fits-true, start-back, long-back, length-row, length-rows, rows-append, texts-append, rows-back, fit-append, fit-at}
 
 -- ---- declarations and their rows
 
@@ -228,12 +228,12 @@ rows-of cs rs n i few fit room ok l =
 -- one row
 pub row-of : (cs : List ℕ) (rs : List Row) (i : ℕ) (d : Row) → length cs ≤ declarationLimit → length rs ≤ rowLimit → length (texts rs) ≤ stringLimit → allFit rs ≡ true → i < length rs
     → rowAt (pack cs rs) i ≡ getD rs i d
-unfolding rowsFrom rowsOf entryAt textAt
+unfolding rowsFrom rowsOf entryAt textAt defaultAt
 row-of cs rs i d few fit room ok l =
     ap (λ (x : List Row). getD x 0 d) (rows-of cs rs 1 i few fit room ok (omega arith))
     ∙ rw (drop-cons rs i d l)
 
--- where the string of row i begins
+-- where the strings of row i begin
 pub start-of : (cs : List ℕ) (rs : List Row) (i : ℕ) → length cs ≤ declarationLimit → length rs ≤ rowLimit → length (texts rs) ≤ stringLimit → i < length rs
     → textStart (fromRow (pack cs rs) i) ≡ length (texts (take i rs))
 unfolding texts encodeRows
@@ -244,30 +244,30 @@ start-of cs rs i few fit room l =
     let z : List Row = drop (suc i) rs in
     let e : a ++ ((r ∷ []) ++ z) ≡ rs = sym (split-at rs i d l) in
     let p : length a ≡ i = length-take-le i rs (omega arith) in
-    let u : length (texts rs) ≡ length (texts a) + (length (r .text) + length (texts z)) = ap (λ (x : List Row). length (texts x)) (sym e) ∙ ap length (texts-append a (r ∷ z)) ∙ simp length-append in
+    let u : length (texts rs) ≡ length (texts a) + (length (stringsOf r) + length (texts z)) = ap (λ (x : List Row). length (texts x)) (sym e) ∙ ap length (texts-append a (r ∷ z)) ∙ simp length-append in
     let f : drop (rowsStart + rowSize * i) (pack cs rs) ≡ encodeRow (length (texts a)) r ++ behind cs a (r ∷ []) z few (rw e fit) (rw e room)
     = (rw (e, p, append-nil (encodeRow (length (texts a)) r)) at (from-row cs a (r ∷ []) z few (rw e fit) (rw e room))) in
     rw f (start-back (length (texts a)) r _ (omega arith))
 
 -- where the strings of the first n rows end
-pub strings-of : (cs : List ℕ) (rs : List Row) (n : ℕ) → length cs ≤ declarationLimit → length rs ≤ rowLimit → length (texts rs) ≤ stringLimit → n ≤ length rs
+pub strings-of : (cs : List ℕ) (rs : List Row) (n : ℕ) → length cs ≤ declarationLimit → length rs ≤ rowLimit → length (texts rs) ≤ stringLimit → allFit rs ≡ true → n ≤ length rs
     → stringsBefore (pack cs rs) n ≡ length (texts (take n rs))
 unfolding stringsBefore textEnd texts encodeRows
-strings-of cs rs zero few fit room l = refl
-strings-of cs rs (suc i) few fit room l =
+strings-of cs rs zero few fit room ok l = refl
+strings-of cs rs (suc i) few fit room ok l =
     let d : Row = rowAt [] 0 in
     let a : List Row = take i rs in
     let r : Row = getD rs i d in
     let z : List Row = drop (suc i) rs in
     let e : a ++ ((r ∷ []) ++ z) ≡ rs = sym (split-at rs i d l) in
     let p : length a ≡ i = length-take-le i rs (omega arith) in
-    let t : texts (take (suc i) rs) ≡ texts a ++ r .text = ap texts (take-suc rs i d l) ∙ texts-append a (r ∷ []) ∙ ap (λ (x : List ℕ). texts a ++ x) (append-nil (r .text)) in
-    let n : length (texts a ++ r .text) ≡ length (texts a) + length (r .text) = length-append (texts a) (r .text) in
-    let u : length (texts rs) ≡ length (texts a) + (length (r .text) + length (texts z)) = ap (λ (x : List Row). length (texts x)) (sym e) ∙ ap length (texts-append a (r ∷ z)) ∙ simp length-append in
+    let t : texts (take (suc i) rs) ≡ texts a ++ stringsOf r = ap texts (take-suc rs i d l) ∙ texts-append a (r ∷ []) ∙ ap (λ (x : List ℕ). texts a ++ x) (append-nil (stringsOf r)) in
+    let n : length (texts a ++ stringsOf r) ≡ length (texts a) + length (stringsOf r) = length-append (texts a) (stringsOf r) in
+    let u : length (texts rs) ≡ length (texts a) + (length (stringsOf r) + length (texts z)) = ap (λ (x : List Row). length (texts x)) (sym e) ∙ ap length (texts-append a (r ∷ z)) ∙ simp length-append in
     let f : drop (rowsStart + rowSize * i) (pack cs rs) ≡ encodeRow (length (texts a)) r ++ behind cs a (r ∷ []) z few (rw e fit) (rw e room)
     = (rw (e, p, append-nil (encodeRow (length (texts a)) r)) at (from-row cs a (r ∷ []) z few (rw e fit) (rw e room))) in
     let s : suc i - 1 ≡ i = omega arith in
-    rw (eqb·suc-zero i, s, f, t, n) (end-back (length (texts a)) r _ (omega arith) (omega arith))
+    rw (eqb·suc-zero i, s, f, t, n) (ap₂ _+_ (start-back (length (texts a)) r _ (omega arith)) (long-back (length (texts a)) r _ (fits-true r (fit-at rs i d l ok))))
 
 -- how many rows a place has
 sum-at : (ns : List ℕ) (k : ℕ) → getD ns k 0 ≤ sum ns
@@ -294,26 +294,26 @@ size-of cs rs k l h =
 
 -- ---- writing
 
--- one row behind the others, and its string behind theirs
-pub write-row : (cs : List ℕ) (rs : List Row) (r : Row) → length cs ≤ declarationLimit → length rs < rowLimit → length (texts rs) + length (r .text) ≤ stringLimit
-    → store (store (pack cs rs) (rowsStart + rowSize * length rs) (encodeRow (length (texts rs)) r)) (stringsStart + length (texts rs)) (r .text) ≡ pack cs (rs ++ (r ∷ []))
+-- one row behind the others, and its strings behind theirs
+pub write-row : (cs : List ℕ) (rs : List Row) (r : Row) → length cs ≤ declarationLimit → length rs < rowLimit → length (texts rs) + length (stringsOf r) ≤ stringLimit
+    → store (store (pack cs rs) (rowsStart + rowSize * length rs) (encodeRow (length (texts rs)) r)) (stringsStart + length (texts rs)) (stringsOf r) ≡ pack cs (rs ++ (r ∷ []))
 unfolding rowArea textArea encodeRows texts
 write-row cs rs r few fit room =
     let o = length (texts rs) in
     let h = header cs in
     let one : encodeRows 0 rs ++ encodeRow o r ≡ encodeRows 0 (rs ++ (r ∷ []))
     = ap (λ (x : List ℕ). encodeRows 0 rs ++ x) (sym (append-nil (encodeRow o r))) ∙ sym (rows-append 0 rs (r ∷ []) ∙ rw (zero-add o)) in
-    let two : texts rs ++ r .text ≡ texts (rs ++ (r ∷ [])) = ap (λ (x : List ℕ). texts rs ++ x) (sym (append-nil (r .text))) ∙ sym (texts-append rs (r ∷ [])) in
+    let two : texts rs ++ stringsOf r ≡ texts (rs ++ (r ∷ [])) = ap (λ (x : List ℕ). texts rs ++ x) (sym (append-nil (stringsOf r))) ∙ sym (texts-append rs (r ∷ [])) in
     let area : List ℕ = rowArea (rs ++ (r ∷ [])) in
     let long : length area ≡ rowsSize = length-rowArea (rs ++ (r ∷ [])) (omega (arith, length-append rs (r ∷ []))) in
-    ap (λ (m : List ℕ). store (store m (rowsStart + rowSize * length rs) (encodeRow o r)) (stringsStart + o) (r .text)) (pack-is cs rs)
-    ∙ ap (λ (m : List ℕ). store m (stringsStart + o) (r .text))
+    ap (λ (m : List ℕ). store (store m (rowsStart + rowSize * length rs) (encodeRow o r)) (stringsStart + o) (stringsOf r)) (pack-is cs rs)
+    ∙ ap (λ (m : List ℕ). store m (stringsStart + o) (stringsOf r))
     (fill-more h (encodeRows 0 rs) (encodeRow o r) (textArea rs) rowsSize (rowsStart + rowSize * length rs) (omega (arith, length-header cs few, length-rows 0 rs)) (omega (arith, length-rows 0 rs, length-row o r))
     ∙ ap (λ (x : List ℕ). h ++ (filled rowsSize x ++ textArea rs)) one
     ∙ sym (append-assoc h area (textArea rs))
     ∙ ap (λ (x : List ℕ). (h ++ area) ++ x) (sym (append-nil (textArea rs))))
-    ∙ fill-more (h ++ area) (texts rs) (r .text) [] stringLimit (stringsStart + o) (omega (arith, length-append h area, length-header cs few)) room
-    ∙ ap (λ (x : List ℕ). (h ++ area) ++ x) (append-nil (filled stringLimit (texts rs ++ r .text)) ∙ ap (filled stringLimit) two)
+    ∙ fill-more (h ++ area) (texts rs) (stringsOf r) [] stringLimit (stringsStart + o) (omega (arith, length-append h area, length-header cs few)) room
+    ∙ ap (λ (x : List ℕ). (h ++ area) ++ x) (append-nil (filled stringLimit (texts rs ++ stringsOf r)) ∙ ap (filled stringLimit) two)
     ∙ append-assoc h area (textArea (rs ++ (r ∷ [])))
     ∙ sym (pack-is cs (rs ++ (r ∷ [])))
 

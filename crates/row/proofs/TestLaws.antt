@@ -15,7 +15,7 @@ use Rattle.ground.proofs.Laws.{and-true}
 use Rattle.row.specs.Kinds.{kindNumber, kindOf}
 use Rattle.row.specs.Numbers.{number}
 use Rattle.row.specs.Layout.{declarationLimit, rowLimit, stringLimit, headerSize, rowSize, rowsStart, stringsStart, layoutLength}
-use Rattle.row.specs.Rows.{textStart, textLength}
+use Rattle.row.specs.Rows.{textStart, stringsLength}
 use Rattle.row.specs.Sets.{countIn, isEncoding}
 use Rattle.row.specs.Memory.{fromRow, rowsBefore}
 use Rattle.row.specs.Tidy.{tidyRow, tidyEnd, rowsEnd, spareZero, isTidy}
@@ -44,7 +44,7 @@ module _ (m : List ℕ) (i o j : ℕ) (je : j ≡ kindNumber (kindOf (getD m (ro
     other-start h =
         rw (eq-eqb (kindNumber (kindOf (number (fromRow m i) 0 1))) (number (fromRow m i) 0 1) kind-known, ne-eqb (textStart (fromRow m i)) o (λ e. h (se ∙ e)))
 
-    pub start-there : s ≡ o → (w : ℕ) → w ≡ textLength (fromRow m i) → leb (o + w) stringLimit ≡ tidyRow o (fromRow m i)
+    pub start-there : s ≡ o → (w : ℕ) → w ≡ stringsLength (fromRow m i) → leb (o + w) stringLimit ≡ tidyRow o (fromRow m i)
     unfolding tidyRow
     start-there h w we =
         rw (eq-eqb (kindNumber (kindOf (number (fromRow m i) 0 1))) (number (fromRow m i) 0 1) kind-known, eq-eqb (textStart (fromRow m i)) o (sym se ∙ h), we)
@@ -55,14 +55,14 @@ pub end-start : (m : List ℕ) (n : ℕ) → tidyEnd (n - 0) 0 (drop (rowsStart 
 unfolding rowsEnd
 end-start m n = rw sub-zero
 
-pub end-fits : (o : ℕ) (l : List ℕ) (w : ℕ) → true ≡ tidyRow o l → w ≡ textLength l → o + w ≤ stringLimit
+pub end-fits : (o : ℕ) (l : List ℕ) (w : ℕ) → true ≡ tidyRow o l → w ≡ stringsLength l → o + w ≤ stringLimit
 unfolding tidyRow
 end-fits o l w t e =
-    let p = and-true (eqb (kindNumber (kindOf (number l 0 1))) (number l 0 1) && eqb (textStart l) o) (leb (o + textLength l) stringLimit) (sym t) in
-    omega (arith, leb-true (o + textLength l) stringLimit (p .1))
+    let p = and-true (eqb (kindNumber (kindOf (number l 0 1))) (number l 0 1) && eqb (textStart l) o) (leb (o + stringsLength l) stringLimit) (sym t) in
+    omega (arith, leb-true (o + stringsLength l) stringLimit (p .1))
 
 module _ (m : List ℕ) (n i o x : ℕ) (inv : tidyEnd (n - i) o (drop (rowsStart + rowSize * i) m) ≡ x) where
-  pub end-turn : i < n → true ≡ tidyRow o (fromRow m i) → (w : ℕ) → w ≡ textLength (fromRow m i) → tidyEnd (n - (i + 1)) (o + w) (drop (rowsStart + rowSize * (i + 1)) m) ≡ x
+  pub end-turn : i < n → true ≡ tidyRow o (fromRow m i) → (w : ℕ) → w ≡ stringsLength (fromRow m i) → tidyEnd (n - (i + 1)) (o + w) (drop (rowsStart + rowSize * (i + 1)) m) ≡ x
   unfolding tidyEnd
   end-turn l t w e =
       let f : n - i ≡ suc (n - (i + 1)) = omega arith in

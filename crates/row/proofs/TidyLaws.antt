@@ -16,13 +16,13 @@ use Rattle.row.specs.Kinds.{kindNumber, kindOf}
 use Rattle.ground.specs.Numbers.{lowFirst}
 use Rattle.row.specs.Numbers.{le, number}
 use Rattle.row.specs.Layout.{declarationLimit, rowLimit, stringLimit, headerSize, rowSize, rowsStart, rowsSize, stringsStart, layoutLength}
-use Rattle.row.specs.Rows.{Row, rowOf, fits, allFit, encodeFront, encodeRow, encodeRows, texts, entryOf, textOf, textStart, textLength, rowsOf}
+use Rattle.row.specs.Rows.{Row, rowWith, stringsOf, fits, allFit, encodeFront, encodeRow, encodeRows, texts, entryOf, textOf, textStart, textLength, defaultOf, defaultLength, stringsLength, rowsOf}
 use Rattle.row.specs.Sets.{flat, sizes, sum, words, zeros, filled, pack, encode, wordsOf, countIn, sizesIn, rowsFrom, split, decode, isWithin, isEncoding}
 use Rattle.row.specs.Memory.{rowsBefore}
 use Rattle.row.specs.Tidy.{tidyRow, tidyEnd, rowsEnd, spareZero, isTidy}
-use Rattle.row.proofs.NumberLaws.{le-one, le-bytes, number-one}
+use Rattle.row.proofs.NumberLaws.{le-one, number-one}
 use Rattle.row.proofs.Laws.{true-within, encoding-true}
-use Rattle.row.proofs.RowLaws.{kind-back, length-row, length-rows}
+use Rattle.row.proofs.RowLaws.{kind-back, fits-true, length-row, start-back, long-back, length-rows}
 use Rattle.row.proofs.SetLaws.{length-words, length-sizes, sum-sizes, count-pack, sizes-pack, length-pack, rows-start, spare-sizes, spare-rows, spare-texts}
 
 -- ---- bytes and their numbers
@@ -90,14 +90,16 @@ number-small m at n h = le-small n (drop at m) (all-drop at m h)
 -- ---- one row
 
 module _ (l st : List ℕ) (o : ℕ) (h : AllBytes l) (long : rowSize ≤ length l) where
-  row-canon : kindNumber (kindOf (number l 0 1)) ≡ number l 0 1 → textStart l ≡ o → length (textOf st l) ≡ textLength l → encodeRow o (rowOf (entryOf l) (textOf st l)) ≡ take rowSize l
+  row-canon : kindNumber (kindOf (number l 0 1)) ≡ number l 0 1 → textStart l ≡ o → length (textOf st l) ≡ textLength l → length (defaultOf st l) ≡ defaultLength l
+      → encodeRow o (rowWith (entryOf l) (textOf st l) (defaultOf st l)) ≡ take rowSize l
   unfolding encodeRow encodeFront entryOf
-  row-canon k s n =
+  row-canon k s n u =
       let f : (at w : ℕ) → at + w ≤ rowSize → lowFirst w (number l at w) ≡ part l at w = λ at w d. number-bytes l h at w (omega arith) in
       let o′ : lowFirst 2 o ≡ part l 8 2 = ap (lowFirst 2) (sym s) ∙ f 8 2 (lit≤ tt) in
-      let n′ : lowFirst 2 (length (textOf st l)) ≡ part l 6 2 = ap (lowFirst 2) n ∙ f 6 2 (lit≤ tt) in
-      rw (k, o′, n′, f 2 2 (lit≤ tt), f 4 2 (lit≤ tt), f 10 8 (lit≤ tt), f 18 8 (lit≤ tt), f 26 8 (lit≤ tt))
-      (rw (← part-add l 6 2 2, ← part-add l 4 2 4, ← part-add l 2 2 6, ← part-add l 18 8 8, ← part-add l 10 8 16)
+      let n′ : lowFirst 1 (length (textOf st l)) ≡ part l 6 1 = ap (lowFirst 1) n ∙ f 6 1 (lit≤ tt) in
+      let u′ : lowFirst 1 (length (defaultOf st l)) ≡ part l 7 1 = ap (lowFirst 1) u ∙ f 7 1 (lit≤ tt) in
+      rw (k, o′, n′, u′, f 2 2 (lit≤ tt), f 4 2 (lit≤ tt), f 10 8 (lit≤ tt), f 18 8 (lit≤ tt), f 26 8 (lit≤ tt))
+      (rw (← part-add l 7 1 2, ← part-add l 6 1 3, ← part-add l 4 2 4, ← part-add l 2 2 6, ← part-add l 18 8 8, ← part-add l 10 8 16)
       (ap (λ (x : List ℕ). number l 0 1 ∷ x ++ part l 10 24) (one-byte l h 1 (part l 2 8) (omega arith))
       ∙ ap (λ (x : List ℕ). x ++ part l 10 24) (one-byte l h 0 (part l 1 1 ++ part l 2 8) (omega arith))
       ∙ rw (← part-add l 1 1 8, ← part-add l 0 1 9, ← part-add l 0 10 24) (part-take l rowSize)))
@@ -108,15 +110,28 @@ text-is : (st l : List ℕ) (o : ℕ) → textStart l ≡ o → textOf st l ≡ 
 unfolding textOf part
 text-is st l o e = ap (λ (k : ℕ). take (textLength l) (drop k st)) e
 
-text-long : (st l : List ℕ) (o : ℕ) → length st ≡ stringLimit → textStart l ≡ o → o + textLength l ≤ stringLimit → length (textOf st l) ≡ textLength l
+text-long : (st l : List ℕ) (o : ℕ) → length st ≡ stringLimit → textStart l ≡ o → o + stringsLength l ≤ stringLimit → length (textOf st l) ≡ textLength l
 text-long st l o s e h = ap length (text-is st l o e) ∙ length-take (textLength l) (drop o st) ∙ omega (arith, length-drop o st)
+
+default-is : (st l : List ℕ) (o : ℕ) → textStart l ≡ o → defaultOf st l ≡ take (defaultLength l) (drop (o + textLength l) st)
+unfolding defaultOf part
+default-is st l o e = ap (λ (k : ℕ). take (defaultLength l) (drop (k + textLength l) st)) e
+
+default-long : (st l : List ℕ) (o : ℕ) → length st ≡ stringLimit → textStart l ≡ o → o + stringsLength l ≤ stringLimit → length (defaultOf st l) ≡ defaultLength l
+default-long st l o s e h = ap length (default-is st l o e) ∙ length-take (defaultLength l) (drop (o + textLength l) st) ∙ omega (arith, length-drop (o + textLength l) st)
+
+-- both, one behind the other
+strings-are : (st l : List ℕ) (o : ℕ) → textStart l ≡ o → textOf st l ++ defaultOf st l ≡ take (stringsLength l) (drop o st)
+strings-are st l o e =
+    ap₂ _++_ (text-is st l o e) (default-is st l o e ∙ ap (take (defaultLength l)) (sym (drop-drop (textLength l) o st)))
+    ∙ sym (take-add (textLength l) (defaultLength l) (drop o st))
 
 -- what a row that passes the test is
 record Tidy (k o : ℕ) (l : List ℕ) : Type 0 where
   kind : kindNumber (kindOf (number l 0 1)) ≡ number l 0 1
   start : textStart l ≡ o
-  fit : o + textLength l ≤ stringLimit
-  rest : tidyEnd (suc k) o l ≡ tidyEnd k (o + textLength l) (drop rowSize l)
+  fit : o + stringsLength l ≤ stringLimit
+  rest : tidyEnd (suc k) o l ≡ tidyEnd k (o + stringsLength l) (drop rowSize l)
 
 past : (t : Bool) (e f : ℕ) → e ≡ cond t f (stringLimit + 1) → e ≤ stringLimit → t ≡ true
 past true e f p h = refl
@@ -125,8 +140,8 @@ past false e f p h = absurd (omega arith)
 tidy-step : (k o : ℕ) (l : List ℕ) → tidyEnd (suc k) o l ≤ stringLimit → Tidy k o l
 unfolding tidyEnd tidyRow
 tidy-step k o l h =
-    let t : tidyRow o l ≡ true = past (tidyRow o l) (tidyEnd (suc k) o l) (tidyEnd k (o + textLength l) (drop rowSize l)) refl h in
-    let a = and-true _ (leb (o + textLength l) stringLimit) t in
+    let t : tidyRow o l ≡ true = past (tidyRow o l) (tidyEnd (suc k) o l) (tidyEnd k (o + stringsLength l) (drop rowSize l)) refl h in
+    let a = and-true _ (leb (o + stringsLength l) stringLimit) t in
     let b = and-true _ (eqb (textStart l) o) (a .0) in
     record { kind = eqb-true _ _ (b .0); start = eqb-true _ _ (b .1); fit = leb-true _ _ (a .1); rest = rw t }
 
@@ -137,31 +152,39 @@ record Canon (st : List ℕ) (k o : ℕ) (l : List ℕ) : Type 0 where
   after : o ≤ tidyEnd k o l
 
 rows-canon : (st : List ℕ) (k o : ℕ) (l : List ℕ) → length st ≡ stringLimit → AllBytes l → rowSize * k ≤ length l → tidyEnd k o l ≤ stringLimit → Canon st k o l
-unfolding rowsOf encodeRows texts tidyEnd
+unfolding rowsOf encodeRows texts stringsOf tidyEnd
 rows-canon st zero o l s h n e =
     let z : o - o ≡ 0 = omega arith in
     record { rows = refl; strings = rw z; after = omega arith }
 rows-canon st (suc k) o l s h n e =
     let t = tidy-step k o l e in
-    let w : ℕ = textLength l in
-    let r : Row = rowOf (entryOf l) (textOf st l) in
+    let w : ℕ = stringsLength l in
+    let r : Row = rowWith (entryOf l) (textOf st l) (defaultOf st l) in
     let l′ : List ℕ = drop rowSize l in
-    let long : length (textOf st l) ≡ w = text-long st l o s (t .start) (t .fit) in
+    let text = text-long st l o s (t .start) (t .fit) in
+    let default = default-long st l o s (t .start) (t .fit) in
+    let long : length (textOf st l ++ defaultOf st l) ≡ w = length-append (textOf st l) (defaultOf st l) ∙ ap₂ _+_ text default in
     let ih = rows-canon st k (o + w) l′ s (all-drop rowSize l h) (omega (arith, length-drop rowSize l)) (rw (t .rest) at e) in
-    let one : encodeRow o r ≡ take rowSize l = row-canon l st o h (omega arith) (t .kind) (t .start) long in
+    let one : encodeRow o r ≡ take rowSize l = row-canon l st o h (omega arith) (t .kind) (t .start) text default in
     let m : rowSize * suc k ≡ rowSize + rowSize * k = omega arith in
     let d : tidyEnd k (o + w) l′ - o ≡ w + (tidyEnd k (o + w) l′ - (o + w)) = omega (arith, ih .after) in
     record {
       rows = rw (m, long) (take-add rowSize (rowSize * k) l ∙ ap₂ _++_ (sym one) (ih .rows));
-      strings = ap (λ (x : ℕ). take (x - o) (drop o st)) (t .rest) ∙ rw d (take-add w (tidyEnd k (o + w) l′ - (o + w)) (drop o st) ∙ ap₂ _++_ (sym (text-is st l o (t .start))) (ap (take (tidyEnd k (o + w) l′ - (o + w))) (drop-drop w o st) ∙ ih .strings));
+      strings = ap (λ (x : ℕ). take (x - o) (drop o st)) (t .rest) ∙ rw d (take-add w (tidyEnd k (o + w) l′ - (o + w)) (drop o st) ∙ ap₂ _++_ (sym (strings-are st l o (t .start))) (ap (take (tidyEnd k (o + w) l′ - (o + w))) (drop-drop w o st) ∙ ih .strings));
       after = rw (t .rest) (omega (arith, ih .after));
     }
 
 -- the numbers of rows fit
-row-fits : (l st : List ℕ) → AllBytes l → fits (rowOf (entryOf l) (textOf st l)) ≡ true
-unfolding fits entryOf
+part-short : (s : List ℕ) (at n : ℕ) → length (part s at n) ≤ n
+unfolding part
+part-short s at n = omega (arith, length-take n (drop at s))
+
+row-fits : (l st : List ℕ) → AllBytes l → fits (rowWith (entryOf l) (textOf st l) (defaultOf st l)) ≡ true
+unfolding fits entryOf textOf defaultOf
 row-fits l st h =
     let f : (at n : ℕ) → number l at n < 256 ^ n = λ at n. number-small l at n h in
+    let t : length (part st (textStart l) (textLength l)) < 2 ^ 8 = omega (arith, part-short st (textStart l) (textLength l), f 6 1) in
+    let d : length (part st (textStart l + textLength l) (defaultLength l)) < 2 ^ 8 = omega (arith, part-short st (textStart l + textLength l) (defaultLength l), f 7 1) in
     rw (
       lt-ltb (number l 2 2) (2 ^ 16) (f 2 2),
       lt-ltb (number l 4 2) (2 ^ 16) (f 4 2),
@@ -169,12 +192,14 @@ row-fits l st h =
       lt-ltb (number l 1 1) (2 ^ 8) (f 1 1),
       lt-ltb (number l 18 8) (2 ^ 64) (f 18 8),
       lt-ltb (number l 26 8) (2 ^ 64) (f 26 8),
+      lt-ltb (length (part st (textStart l) (textLength l))) (2 ^ 8) t,
+      lt-ltb (length (part st (textStart l + textLength l) (defaultLength l))) (2 ^ 8) d,
     )
 
 rows-fit : (st : List ℕ) (k : ℕ) (l : List ℕ) → AllBytes l → allFit (rowsOf st k l) ≡ true
 unfolding allFit rowsOf
 rows-fit st zero l h = refl
-rows-fit st (suc k) l h = and-intro (fits (rowOf (entryOf l) (textOf st l))) (allFit (rowsOf st k (drop rowSize l))) (row-fits l st h) (rows-fit st k (drop rowSize l) (all-drop rowSize l h))
+rows-fit st (suc k) l h = and-intro (fits (rowWith (entryOf l) (textOf st l) (defaultOf st l))) (allFit (rowsOf st k (drop rowSize l))) (row-fits l st h) (rows-fit st k (drop rowSize l) (all-drop rowSize l h))
 
 found-fit : (m : List ℕ) (t : ℕ) → AllBytes m → allFit (rowsFrom m t 0) ≡ true
 unfolding rowsFrom
@@ -362,36 +387,34 @@ tidy-encoding m h w =
 
 -- ---- an encoding passes
 
-front-back : (o : ℕ) (r : Row) (x : List ℕ) → o < 2 ^ 16 → length (r .text) < 2 ^ 16
-    → (number (encodeRow o r ++ x) 0 1 ≡ kindNumber (r .kind)) × (textStart (encodeRow o r ++ x) ≡ o) × (textLength (encodeRow o r ++ x) ≡ length (r .text))
+kind-first : (o : ℕ) (r : Row) (x : List ℕ) → number (encodeRow o r ++ x) 0 1 ≡ kindNumber (r .kind)
 unfolding encodeRow encodeFront lowFirst part
-front-back o r x h k = (le-one (kindNumber (r .kind)), le-bytes 2 o h, le-bytes 2 (length (r .text)) k)
+kind-first o r x = le-one (kindNumber (r .kind))
 
-row-tidy : (o : ℕ) (r : Row) (x : List ℕ) → o + length (r .text) ≤ stringLimit → tidyRow o (encodeRow o r ++ x) ≡ true
+row-tidy : (o : ℕ) (r : Row) (x : List ℕ) → fits r ≡ true → o + length (stringsOf r) ≤ stringLimit → tidyRow o (encodeRow o r ++ x) ≡ true
 unfolding tidyRow
-row-tidy o r x h =
-    let f = front-back o r x (omega arith) (omega arith) in
-    rw (f .0, f .1, f .2, kind-back (r .kind), eq-eqb (kindNumber (r .kind)) (kindNumber (r .kind)) refl, eq-eqb o o refl, le-leb (o + length (r .text)) stringLimit h)
+row-tidy o r x ok h =
+    rw (kind-first o r x, start-back o r x (omega arith), long-back o r x (fits-true r ok), kind-back (r .kind), eq-eqb (kindNumber (r .kind)) (kindNumber (r .kind)) refl, eq-eqb o o refl, le-leb (o + length (stringsOf r)) stringLimit h)
 
-rows-tidy : (rs : List Row) (o : ℕ) (x : List ℕ) → o + length (texts rs) ≤ stringLimit → tidyEnd (length rs) o (encodeRows o rs ++ x) ≡ o + length (texts rs)
-unfolding tidyEnd encodeRows texts
-rows-tidy [] o x h = sym (add-zero o)
-rows-tidy (r ∷ rs) o x h =
-    let n : ℕ = o + length (r .text) in
+rows-tidy : (rs : List Row) (o : ℕ) (x : List ℕ) → allFit rs ≡ true → o + length (texts rs) ≤ stringLimit → tidyEnd (length rs) o (encodeRows o rs ++ x) ≡ o + length (texts rs)
+unfolding tidyEnd encodeRows texts allFit
+rows-tidy [] o x ok h = sym (add-zero o)
+rows-tidy (r ∷ rs) o x ok h =
+    let n : ℕ = o + length (stringsOf r) in
     let y : List ℕ = encodeRows n rs ++ x in
-    let a = length-append (r .text) (texts rs) in
-    let f = front-back o r y (omega arith) (omega arith) in
-    rw (append-assoc (encodeRow o r) (encodeRows n rs) x, row-tidy o r y (omega arith), f .2, drop-at (encodeRow o r) y rowSize (length-row o r))
-    (rows-tidy rs n x (omega arith) ∙ omega arith)
+    let a = length-append (stringsOf r) (texts rs) in
+    let s = and-true (fits r) (allFit rs) ok in
+    rw (append-assoc (encodeRow o r) (encodeRows n rs) x, row-tidy o r y (s .0) (omega arith), long-back o r y (fits-true r (s .0)), drop-at (encodeRow o r) y rowSize (length-row o r))
+    (rows-tidy rs n x (s .1) (omega arith) ∙ omega arith)
 
-module _ (cs : List ℕ) (rs : List Row) (few : length cs ≤ declarationLimit) (fit : length rs ≤ rowLimit) (room : length (texts rs) ≤ stringLimit) (all : sum cs ≡ length rs) where
+module _ (cs : List ℕ) (rs : List Row) (few : length cs ≤ declarationLimit) (fit : length rs ≤ rowLimit) (room : length (texts rs) ≤ stringLimit) (ok : allFit rs ≡ true) (all : sum cs ≡ length rs) where
   pack-rows : rowsBefore (pack cs rs) (length cs) ≡ length rs
   unfolding rowsBefore
   pack-rows = rw (sizes-pack cs rs (length cs) (omega arith) (omega arith), take-all (length cs) cs (omega arith)) all
 
   pack-end : rowsEnd (pack cs rs) (length rs) ≡ length (texts rs)
   unfolding rowsEnd
-  pack-end = rows-start cs rs few (λ (x : List ℕ). tidyEnd (length rs) 0 x ≡ length (texts rs)) (λ x. rows-tidy rs 0 x (omega arith) ∙ zero-add (length (texts rs)))
+  pack-end = rows-start cs rs few (λ (x : List ℕ). tidyEnd (length rs) 0 x ≡ length (texts rs)) (λ x. rows-tidy rs 0 x ok (omega arith) ∙ zero-add (length (texts rs)))
 
   pack-tidy : isTidy (pack cs rs) ≡ true
   unfolding isTidy spareZero
@@ -412,7 +435,7 @@ encoding-tidy m e =
     let ds = decode m in
     let p = encoding-true m e in
     let w = p .1 in
-    ap isTidy (p .0) ∙ pack-tidy (sizes ds) (flat ds) (omega (arith, length-sizes ds, w .declarations)) (w .rows) (w .strings) (sum-sizes ds)
+    ap isTidy (p .0) ∙ pack-tidy (sizes ds) (flat ds) (omega (arith, length-sizes ds, w .declarations)) (w .rows) (w .strings) (w .numbers) (sum-sizes ds)
 
 same-tests : (a b : Bool) → (a ≡ true → b ≡ true) → (b ≡ true → a ≡ true) → a ≡ b
 same-tests true b f g = sym (f refl)

@@ -1,6 +1,6 @@
 -- What the writers' steps come to, over plain values.
 -- Assumes nothing.
-use mathlib.Core.Path.{_≡_, sym, ap, ap₂, _∙_}
+use mathlib.Core.Path.{_≡_, refl, sym, ap, ap₂, _∙_}
 use mathlib.Core.Bool.{true, false}
 use mathlib.Core.List.{List, [], _∷_, _++_}
 use Prim.Native.Nat.{ℕ, zero, suc, _+_, _-_, _*_, _<_, _≤_, min}
@@ -15,13 +15,14 @@ use borrow.Author.Tests.{lt-ltb, le-ltb, le-leb, lt-leb, ltb-true, leb-true}
 use Rattle.answer.specs.declared.counts.Counts.{Counts}
 use Rattle.answer.specs.Limits.{countsOf}
 use Rattle.ground.specs.Bytes.{store}
-use Rattle.ground.proofs.Laws.{and-true}
+use Rattle.ground.proofs.Laws.{and-true, store-then}
 use Rattle.ground.specs.Numbers.{lowFirst}
 use Rattle.row.specs.Layout.{rowLimit, stringLimit, rowSize, rowsStart, stringsStart}
-use Rattle.row.specs.Rows.{Row, rowOf, encodeFront, encodeRow, rowsOf}
+use Rattle.row.specs.Rows.{Row, rowOf, rowWith, stringsOf, encodeFront, encodeRow, rowsOf}
 use Rattle.row.specs.Sets.{zeros, rowsFrom}
-use Rattle.row.specs.Memory.{entryAt, textAt, rowAt, most, counted, hasRoom, written, pushed, countedAll, pushedAll, declared}
+use Rattle.row.specs.Memory.{entryAt, textAt, defaultAt, rowAt, most, counted, hasRoom, written, pushed, countedAll, pushedAll, declared}
 use Rattle.row.specs.declared.Entry.{Entry}
+use Rattle.row.proofs.RowLaws.{length-strings}
 
 -- ---- clearing: the bytes passed are zero
 
@@ -80,18 +81,62 @@ pub row-joined : (o : ℕ) (r : Row) (f s q z b : List ℕ) → f ≡ encodeFron
 unfolding encodeRow
 row-joined o r f s q z b ef es eq ez e = e ∙ rw (ef, es, eq, ez)
 
-pub both-written : (m m₁ m₂ : List ℕ) (c : Counts) (r : Row) → m₁ ≡ store m (rowsStart + rowSize * c .rows) (encodeRow (c .«string_bytes») r) → m₂ ≡ store m₁ (stringsStart + c .«string_bytes») (r .text) → m₂ ≡ written m c r
-unfolding written
-both-written m m₁ m₂ c r p q = q ∙ ap (λ (x : List ℕ). store x (stringsStart + c .«string_bytes») (r .text)) p
+pub all-written : (m m₁ m₂ m₃ : List ℕ) (c : Counts) (r : Row) → m₁ ≡ store m (rowsStart + rowSize * c .rows) (encodeRow (c .«string_bytes») r)
+    → m₂ ≡ store m₁ (stringsStart + c .«string_bytes») (r .text) → m₃ ≡ store m₂ (stringsStart + c .«string_bytes» + length (r .text)) (r .default) → m₃ ≡ written m c r
+unfolding written stringsOf
+all-written m m₁ m₂ m₃ c r p q e =
+    store-then m₁ m₂ m₃ (stringsStart + c .«string_bytes») _ (r .text) (r .default) q e refl
+    ∙ ap (λ (x : List ℕ). store x (stringsStart + c .«string_bytes») (r .text ++ r .default)) p
 
 module _ (m : List ℕ) (c : Counts) (r : Row) where
-  pub no-push : hasRoom c (length (r .text)) ≡ false → m ≡ pushed m c r
+  pub no-push : hasRoom c (length (stringsOf r)) ≡ false → m ≡ pushed m c r
   unfolding pushed
   no-push e = rw e
 
-  pub a-push : hasRoom c (length (r .text)) ≡ true → (m′ : List ℕ) → m′ ≡ written m c r → m′ ≡ pushed m c r
+  pub a-push : hasRoom c (length (stringsOf r)) ≡ true → (m′ : List ℕ) → m′ ≡ written m c r → m′ ≡ pushed m c r
   unfolding pushed
   a-push e m′ h = rw e h
+
+-- a row of two strings, whose lengths n counts together
+module _ (c : Counts) (e : Entry) (t d : List ℕ) (n : ℕ) (en : n ≡ min (length t + length d) most) where
+  r : Row
+  r = rowWith e t d
+
+  long : n ≡ min (length (stringsOf r)) most
+  unfolding r
+  long = rw (length-strings (rowWith e t d)) en
+
+  same-room : hasRoom c n ≡ hasRoom c (length (stringsOf r))
+  unfolding hasRoom
+  same-room =
+      elim (decLe (c .«string_bytes» + n) stringLimit) [
+        yes k ↦ rw (le-leb (c .«string_bytes» + n) stringLimit k, le-leb (c .«string_bytes» + length (stringsOf r)) stringLimit (omega (arith, long)))
+      | no k ↦ rw (lt-leb (c .«string_bytes» + n) stringLimit (omega arith), lt-leb (c .«string_bytes» + length (stringsOf r)) stringLimit (omega (arith, long)))
+      ]
+
+  pub both-counted : (x : Counts) → x ≡ counted c n → x ≡ counted c (length (stringsOf (rowWith e t d)))
+  unfolding counted r
+  both-counted x h =
+      let k : min (c .«string_bytes» + n) most ≡ min (c .«string_bytes» + length (stringsOf (rowWith e t d))) most = omega (arith, long) in
+      h ∙ ap (λ (y : ℕ). countsOf (c .declarations) (min (c .rows + 1) most) y) k
+
+  pub both-full : (m : List ℕ) → hasRoom c n ≡ false → m ≡ pushed m c (rowWith e t d)
+  unfolding r
+  both-full m h = no-push m c (rowWith e t d) (sym same-room ∙ h)
+
+  pub both-room : hasRoom c n ≡ true → (c .rows < rowLimit) × (c .«string_bytes» + (length t + length d) ≤ stringLimit)
+  unfolding r
+  both-room h =
+      let k = room-true c (length (stringsOf r)) (sym same-room ∙ h) in
+      (k .0, omega (arith, k .1, length-strings (rowWith e t d)))
+
+  pub both-pushed : (m m′ : List ℕ) → hasRoom c n ≡ true → m′ ≡ written m c (rowWith e t d) → m′ ≡ pushed m c (rowWith e t d)
+  unfolding r
+  both-pushed m m′ h w = a-push m c (rowWith e t d) (sym same-room ∙ h) m′ w
+
+-- a row of one
+pub one-counted : (c x : Counts) (e : Entry) (t : List ℕ) → x ≡ counted c (length (stringsOf (rowOf e t))) → x ≡ counted c (length t)
+one-counted c x e t h = let k : length (stringsOf (rowOf e t)) ≡ length t = length-strings (rowOf e t) ∙ add-zero (length t) in h ∙ ap (counted c) k
 
 -- ---- one declaration
 
@@ -102,7 +147,7 @@ two-words m m₁ m₂ k n a b p q e f = f ∙ rw (e, p, q)
 -- ---- many rows of another memory: those that are left
 
 rows-left : (f : List ℕ) (s n i : ℕ) → i < n → rowsFrom f (n - i) (s + i) ≡ rowAt f (s + i) ∷ rowsFrom f (n - (i + 1)) (s + (i + 1))
-unfolding rowsFrom rowsOf entryAt textAt
+unfolding rowsFrom rowsOf entryAt textAt defaultAt
 rows-left f s n i l =
     let e : n - i ≡ suc (n - (i + 1)) = omega arith in
     let g : rowsStart + rowSize * (s + i) + rowSize ≡ rowsStart + rowSize * (s + (i + 1)) = omega arith in
@@ -116,12 +161,13 @@ pub push-start : (f : List ℕ) (s n : ℕ) → rowsFrom f (n - 0) (s + 0) ≡ r
 push-start f s n = rw (sub-zero, add-zero)
 
 module _ (f m x : List ℕ) (s n i : ℕ) (c y : Counts) (p : countedAll c (rowsFrom f (n - i) (s + i)) ≡ y) (q : pushedAll m c (rowsFrom f (n - i) (s + i)) ≡ x) where
-  pub push-turn : i < n → (e : Entry) (t : List ℕ) → e ≡ entryAt f (s + i) → t ≡ textAt f (s + i) → (c′ : Counts) (m′ : List ℕ) → c′ ≡ counted c (length t) → m′ ≡ pushed m c (rowOf e t)
+  pub push-turn : i < n → (e : Entry) (t u : List ℕ) → e ≡ entryAt f (s + i) → t ≡ textAt f (s + i) → u ≡ defaultAt f (s + i)
+      → (c′ : Counts) (m′ : List ℕ) → c′ ≡ counted c (length (stringsOf (rowWith e t u))) → m′ ≡ pushed m c (rowWith e t u)
       → (countedAll c′ (rowsFrom f (n - (i + 1)) (s + (i + 1))) ≡ y) × (pushedAll m′ c′ (rowsFrom f (n - (i + 1)) (s + (i + 1))) ≡ x)
   unfolding countedAll pushedAll
-  push-turn l e t he ht c′ m′ hc hm =
+  push-turn l e t u he ht hu c′ m′ hc hm =
       let left = rows-left f s n i l in
-      (rw (hc, ht) (rw left at p), rw (hc, hm, he, ht) (rw left at q))
+      (rw (hc, he, ht, hu) (rw left at p), rw (hc, hm, he, ht, hu) (rw left at q))
 
   pub push-end : n ≤ i → (c ≡ y) × (m ≡ x)
   unfolding countedAll pushedAll

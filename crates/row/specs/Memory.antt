@@ -11,7 +11,7 @@ use Rattle.ground.specs.Bytes.{store}
 use Rattle.ground.specs.Numbers.{lowFirst}
 use Rattle.row.specs.Numbers.{number}
 use Rattle.row.specs.Layout.{rowLimit, stringLimit, rowSize, rowsStart, stringsStart}
-use Rattle.row.specs.Rows.{Row, rowOf, encodeRow, texts, entryOf, textStart, textLength, textOf}
+use Rattle.row.specs.Rows.{Row, rowWith, stringsOf, encodeRow, texts, entryOf, textStart, textLength, textOf, defaultOf, stringsLength}
 use Rattle.row.specs.Sets.{flat, sum, countIn, sizesIn}
 use Rattle.row.specs.declared.Entry.{Entry}
 
@@ -27,16 +27,22 @@ entryAt m i = entryOf (fromRow m i)
 unfoldable pub textAt : List ℕ → ℕ → List ℕ
 textAt m i = textOf (drop stringsStart m) (fromRow m i)
 
--- where in memory it begins
+unfoldable pub defaultAt : List ℕ → ℕ → List ℕ
+defaultAt m i = defaultOf (drop stringsStart m) (fromRow m i)
+
+-- where in memory each begins
 unfoldable pub textPlace : List ℕ → ℕ → ℕ
 textPlace m i = stringsStart + min (textStart (fromRow m i)) stringLimit
+
+unfoldable pub defaultPlace : List ℕ → ℕ → ℕ
+defaultPlace m i = stringsStart + min (textStart (fromRow m i) + textLength (fromRow m i)) stringLimit
 
 -- a slice's pointer is a block of memory and a place in it: this is the pointer so many bytes behind a slice's first
 abbrev pub behind : ℕ × ℕ → ℕ → ℕ × ℕ
 behind first at = (first .0, at + first .1)
 
 abbrev pub rowAt : List ℕ → ℕ → Row
-rowAt m i = rowOf (entryAt m i) (textAt m i)
+rowAt m i = rowWith (entryAt m i) (textAt m i) (defaultAt m i)
 
 -- how many rows a place has
 unfoldable pub sizeAt : List ℕ → ℕ → ℕ
@@ -46,9 +52,9 @@ sizeAt m place = number m (2 + 2 * place) 2
 unfoldable pub rowsBefore : List ℕ → ℕ → ℕ
 rowsBefore m place = sum (sizesIn m place)
 
--- where the string of row i ends in the string area
+-- where the strings of row i end in the string area
 unfoldable pub textEnd : List ℕ → ℕ → ℕ
-textEnd m i = textStart (fromRow m i) + textLength (fromRow m i)
+textEnd m i = textStart (fromRow m i) + stringsLength (fromRow m i)
 
 -- how many string bytes the first n rows have
 unfoldable pub stringsBefore : List ℕ → ℕ → ℕ
@@ -67,29 +73,29 @@ setCounts ds = countsOf (length ds) (length (flat ds)) (length (texts (flat ds))
 abbrev pub most : ℕ
 most = 2 ^ 64 - 1
 
--- one row more, and the n bytes of its string
+-- one row more, and the n bytes of its strings
 unfoldable pub counted : Counts → ℕ → Counts
 counted c n = countsOf (c .declarations) (min (c .rows + 1) most) (min (c .«string_bytes» + n) most)
 
--- is there room for one row more, and the n bytes of its string?
+-- is there room for one row more, and the n bytes of its strings?
 unfoldable pub hasRoom : Counts → ℕ → Bool
 hasRoom c n = ltb (c .rows) rowLimit && leb (c .«string_bytes» + n) stringLimit
 
--- the row behind those that are counted, and its string behind theirs
+-- the row behind those that are counted, and its strings behind theirs
 unfoldable pub written : List ℕ → Counts → Row → List ℕ
-written m c r = store (store m (rowsStart + rowSize * c .rows) (encodeRow (c .«string_bytes») r)) (stringsStart + c .«string_bytes») (r .text)
+written m c r = store (store m (rowsStart + rowSize * c .rows) (encodeRow (c .«string_bytes») r)) (stringsStart + c .«string_bytes») (stringsOf r)
 
 unfoldable pub pushed : List ℕ → Counts → Row → List ℕ
-pushed m c r = cond (hasRoom c (length (r .text))) (written m c r) m
+pushed m c r = cond (hasRoom c (length (stringsOf r))) (written m c r) m
 
 -- rows one after the other: the counts, and the memory
 unfoldable pub countedAll : Counts → List Row → Counts
 countedAll c [] = c
-countedAll c (r ∷ rs) = countedAll (counted c (length (r .text))) rs
+countedAll c (r ∷ rs) = countedAll (counted c (length (stringsOf r))) rs
 
 unfoldable pub pushedAll : List ℕ → Counts → List Row → List ℕ
 pushedAll m c [] = m
-pushedAll m c (r ∷ rs) = pushedAll (pushed m c r) (counted c (length (r .text))) rs
+pushedAll m c (r ∷ rs) = pushedAll (pushed m c r) (counted c (length (stringsOf r))) rs
 
 -- a declaration of n rows at a place, the last
 unfoldable pub declared : List ℕ → ℕ → ℕ → List ℕ

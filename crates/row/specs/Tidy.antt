@@ -9,18 +9,18 @@ use Rattle.ground.specs.Bytes.{part, allZero}
 use Rattle.row.specs.Kinds.{kindNumber, kindOf}
 use Rattle.row.specs.Numbers.{number}
 use Rattle.row.specs.Layout.{declarationLimit, rowLimit, stringLimit, headerSize, rowSize, rowsStart, stringsStart, layoutLength}
-use Rattle.row.specs.Rows.{textStart, textLength}
+use Rattle.row.specs.Rows.{textStart, stringsLength}
 use Rattle.row.specs.Sets.{countIn}
 use Rattle.row.specs.Memory.{rowsBefore}
 
--- the row that bytes start with has a kind, and its string lies from o on in the string area
+-- the row that bytes start with has a kind, and its strings lie from o on in the string area
 unfoldable pub tidyRow : ℕ → List ℕ → Bool
-tidyRow o l = eqb (kindNumber (kindOf (number l 0 1))) (number l 0 1) && eqb (textStart l) o && leb (o + textLength l) stringLimit
+tidyRow o l = eqb (kindNumber (kindOf (number l 0 1))) (number l 0 1) && eqb (textStart l) o && leb (o + stringsLength l) stringLimit
 
 -- where the strings of k rows end, the first of which lies from o on; past the limit where a row is not so
 unfoldable pub tidyEnd : ℕ → ℕ → List ℕ → ℕ
 tidyEnd zero o l = o
-tidyEnd (suc k) o l = let rest = tidyEnd k (o + textLength l) (drop rowSize l) in cond (tidyRow o l) rest (stringLimit + 1)
+tidyEnd (suc k) o l = let rest = tidyEnd k (o + stringsLength l) (drop rowSize l) in cond (tidyRow o l) rest (stringLimit + 1)
 
 -- the first t rows
 unfoldable pub rowsEnd : List ℕ → ℕ → ℕ

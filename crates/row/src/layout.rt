@@ -4,7 +4,7 @@ use answer::Counts;
 pub struct Layout {}
 
 impl Layout {
-    // Each row, its string apart.
+    // Each row, its strings apart.
     pub(crate) const ROW: usize = 34;
 
     // The rows follow the header: the number of declarations, and how many rows each place has.

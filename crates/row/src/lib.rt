@@ -9,7 +9,7 @@ pub mod write;
 pub use kind::Kind;
 pub use layout::Layout;
 
-// A row by value, all but its string.
+// A row by value, all but its strings. The size is that of a fixed, or the position of a field's default.
 pub struct Entry {
     pub kind: Kind,
     pub depth: u16,

@@ -11,6 +11,13 @@ fn wide(x: u8) -> u16
     x as u16
 }
 
+pub fn byte_at(mem: &[u8], at: usize) -> usize
+    requires { ⌜ at < length (now mem) ⌝ }
+    ensures { λ r. ⌜ (r ≡ number (now (mem .entry)) at 1) × (r < 256) ⌝ }
+{
+    wide(mem[at]) as usize
+}
+
 pub fn u16_at(mem: &[u8], at: usize) -> u16
     requires { ⌜ at + 2 ≤ length (now mem) ⌝ }
     ensures { λ r. ⌜ r ≡ number (now (mem .entry)) at 2 ⌝ }

@@ -2,6 +2,7 @@
 use crate::Entry;
 use crate::kind::Kind;
 use crate::layout::Layout;
+use crate::number::byte_at;
 use crate::number::u16_at;
 use crate::number::u64_at;
 use answer::Counts;
@@ -11,9 +12,9 @@ ghost use lib.ListN.{length};
 ghost use Rattle.ground.specs.Bytes.{part};
 ghost use Rattle.row.specs.Kinds.{kindNumber};
 ghost use Rattle.row.specs.Layout.{declarationLimit, rowLimit, layoutLength};
-ghost use Rattle.row.specs.Rows.{textStart, textLength};
+ghost use Rattle.row.specs.Rows.{textStart, textLength, defaultLength, stringsLength};
 ghost use Rattle.row.specs.Sets.{countIn};
-ghost use Rattle.row.specs.Memory.{fromRow, entryAt, textAt, textPlace, behind, sizeAt, rowsBefore, stringsBefore, countsIn};
+ghost use Rattle.row.specs.Memory.{fromRow, entryAt, textAt, defaultAt, textPlace, defaultPlace, behind, sizeAt, rowsBefore, stringsBefore, countsIn};
 
 // The kind of row i.
 pub fn kind_at(mem: &[u8], i: usize) -> Kind
@@ -82,7 +83,7 @@ pub fn scale_at(mem: &[u8], i: usize) -> u64
     u64_at(mem, at + 26)
 }
 
-// Row i, all but its string.
+// Row i, all but its strings.
 pub fn read_row(mem: &[u8], i: usize) -> Entry
     requires { ⌜ (length (now mem) ≡ layoutLength) × (i < rowLimit) ⌝ }
     ensures { λ r. ⌜ r ≡ entryAt (now (mem .entry)) i ⌝ }
@@ -100,15 +101,32 @@ pub fn read_row(mem: &[u8], i: usize) -> Entry
 }
 
 // How long the string of row i is.
-pub(crate) fn text_length(mem: &[u8], i: usize) -> usize
+fn text_length(mem: &[u8], i: usize) -> usize
     requires { ⌜ (length (now mem) ≡ layoutLength) × (i < rowLimit) ⌝ }
-    ensures { λ r. ⌜ (r ≡ textLength (fromRow (now (mem .entry)) i)) × (r < 65536) ⌝ }
+    ensures { λ r. ⌜ (r ≡ textLength (fromRow (now (mem .entry)) i)) × (r < 256) ⌝ }
 {
     let at = Layout::ROWS + Layout::ROW * i;
-    u16_at(mem, at + 6) as usize
+    byte_at(mem, at + 6)
 }
 
-// Where it lies in the string area.
+// How long its default is.
+fn default_length(mem: &[u8], i: usize) -> usize
+    requires { ⌜ (length (now mem) ≡ layoutLength) × (i < rowLimit) ⌝ }
+    ensures { λ r. ⌜ (r ≡ defaultLength (fromRow (now (mem .entry)) i)) × (r < 256) ⌝ }
+{
+    let at = Layout::ROWS + Layout::ROW * i;
+    byte_at(mem, at + 7)
+}
+
+// How long both are together.
+pub(crate) fn strings_length(mem: &[u8], i: usize) -> usize
+    requires { ⌜ (length (now mem) ≡ layoutLength) × (i < rowLimit) ⌝ }
+    ensures { λ r. ⌜ (r ≡ stringsLength (fromRow (now (mem .entry)) i)) × (r < 512) ⌝ }
+{
+    text_length(mem, i) + default_length(mem, i)
+}
+
+// Where they lie in the string area.
 pub(crate) fn text_start(mem: &[u8], i: usize) -> usize
     requires { ⌜ (length (now mem) ≡ layoutLength) × (i < rowLimit) ⌝ }
     ensures { λ r. ⌜ (r ≡ textStart (fromRow (now (mem .entry)) i)) × (r < 65536) ⌝ }
@@ -140,6 +158,16 @@ pub fn string_of(mem: &[u8], i: usize) -> &[u8]
     cut(&mem[Layout::STRINGS..], start, n)
 }
 
+// The default of row i, a part of the memory, no bytes where it has none; of one that does not lie in the string area, the part that does.
+pub fn default_of(mem: &[u8], i: usize) -> &[u8]
+    requires { ⌜ (length (now mem) ≡ layoutLength) × (i < rowLimit) ⌝ }
+    ensures { λ r. ⌜ (now r ≡ defaultAt (now (mem .entry)) i) × (r .ptr ≡ behind (mem .entry .ptr) (defaultPlace (now (mem .entry)) i)) ⌝ }
+{
+    let start = text_start(mem, i) + text_length(mem, i);
+    let n = default_length(mem, i);
+    cut(&mem[Layout::STRINGS..], start, n)
+}
+
 // How many string bytes the first n rows have.
 pub fn strings_before(mem: &[u8], n: usize) -> usize
     requires { ⌜ (length (now mem) ≡ layoutLength) × (n ≤ rowLimit) ⌝ }
@@ -148,7 +176,7 @@ pub fn strings_before(mem: &[u8], n: usize) -> usize
     if n == 0 {
         return 0;
     }
-    text_start(mem, n - 1) + text_length(mem, n - 1)
+    text_start(mem, n - 1) + strings_length(mem, n - 1)
 }
 
 // The number of declarations.

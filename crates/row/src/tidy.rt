@@ -3,7 +3,7 @@ use crate::kind::Kind;
 use crate::layout::Layout;
 use crate::read::declarations;
 use crate::read::rows_before;
-use crate::read::text_length;
+use crate::read::strings_length;
 use crate::read::text_start;
 use answer::Counts;
 use ground::all_zero;
@@ -15,7 +15,7 @@ ghost use Rattle.row.specs.Sets.{isEncoding};
 ghost use Rattle.row.specs.Memory.{fromRow};
 ghost use Rattle.row.specs.Tidy.{tidyRow, rowsEnd, spareZero};
 
-// Does row i have a kind, and does its string lie from `end` on in the string area?
+// Does row i have a kind, and do its strings lie from `end` on in the string area?
 fn tidy_row(mem: &[u8], i: usize, end: usize) -> bool
     requires { ⌜ (length (now mem) ≡ layoutLength) × (i < rowLimit) × (end ≤ stringLimit) ⌝ }
     ensures { λ r. ⌜ r ≡ tidyRow end (fromRow (now (mem .entry)) i) ⌝ }
@@ -27,7 +27,7 @@ fn tidy_row(mem: &[u8], i: usize, end: usize) -> bool
     if text_start(mem, i) != end {
         return false;
     }
-    end + text_length(mem, i) <= Counts::STRING_BYTES
+    end + strings_length(mem, i) <= Counts::STRING_BYTES
 }
 
 // Where the strings of the first n rows end; past the limit where a row is not as it should be.
@@ -41,7 +41,7 @@ fn rows_end(mem: &[u8], n: usize) -> usize
         if !tidy_row(mem, i, end) {
             return Counts::STRING_BYTES + 1;
         }
-        end += text_length(mem, i);
+        end += strings_length(mem, i);
         i += 1;
     }
     end

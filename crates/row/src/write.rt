@@ -3,6 +3,7 @@ use crate::Entry;
 use crate::layout::Layout;
 use crate::number::eight;
 use crate::number::two;
+use crate::read::default_of;
 use crate::read::read_row;
 use crate::read::string_of;
 use answer::Counts;
@@ -13,7 +14,7 @@ ghost use Prim.Native.Nat.{_+_, _≤_, _<_, min};
 ghost use lib.ListN.{length};
 ghost use Rattle.ground.specs.Bytes.{store};
 ghost use Rattle.row.specs.Layout.{declarationLimit, rowLimit, stringLimit, layoutLength};
-ghost use Rattle.row.specs.Rows.{rowOf, encodeFront, encodeRow};
+ghost use Rattle.row.specs.Rows.{rowOf, rowWith, stringsOf, encodeFront, encodeRow};
 ghost use Rattle.row.specs.Sets.{zeros, rowsFrom};
 ghost use Rattle.row.specs.Memory.{most, counted, hasRoom, written, pushed, countedAll, pushedAll, declared};
 
@@ -28,14 +29,12 @@ pub fn clear(mem: &mut [u8])
     }
 }
 
-// The front of a row whose string lies from `start` on in the string area.
-fn front(row: Entry, start: u16, text: &[u8]) -> [u8; 10]
-    requires { ⌜ length (now text) < 65536 ⌝ }
-    ensures { λ r. ⌜ r ≡ encodeFront start (rowOf row (now (text .entry))) ⌝ }
+// The front of a row whose strings lie from `start` on in the string area.
+fn front(row: Entry, start: u16, text: &[u8], default: &[u8]) -> [u8; 10]
+    ensures { λ r. ⌜ r ≡ encodeFront start (rowWith row (now (text .entry)) (now (default .entry))) ⌝ }
 {
     let kind = row.kind;
     let number = kind.number();
-    let length = text.len() as u16;
     [
         number,
         row.note,
@@ -43,8 +42,8 @@ fn front(row: Entry, start: u16, text: &[u8]) -> [u8; 10]
         (row.depth / 256 % 256) as u8,
         (row.position % 256) as u8,
         (row.position / 256 % 256) as u8,
-        (length % 256) as u8,
-        (length / 256 % 256) as u8,
+        (text.len() % 256) as u8,
+        (default.len() % 256) as u8,
         (start % 256) as u8,
         (start / 256 % 256) as u8,
     ]
@@ -92,24 +91,23 @@ fn joined(front: [u8; 10], size: [u8; 8], precision: [u8; 8], scale: [u8; 8]) ->
     ]
 }
 
-// The bytes of a row whose string lies from `start` on in the string area.
-fn bytes_of(row: Entry, start: u16, text: &[u8]) -> [u8; 34]
-    requires { ⌜ length (now text) < 65536 ⌝ }
-    ensures { λ r. ⌜ r ≡ encodeRow start (rowOf row (now (text .entry))) ⌝ }
+// The bytes of a row whose strings lie from `start` on in the string area.
+fn bytes_of(row: Entry, start: u16, text: &[u8], default: &[u8]) -> [u8; 34]
+    ensures { λ r. ⌜ r ≡ encodeRow start (rowWith row (now (text .entry)) (now (default .entry))) ⌝ }
 {
-    let first = front(row, start, text);
+    let first = front(row, start, text, default);
     let size = eight(row.size);
     let precision = eight(row.precision);
     let scale = eight(row.scale);
     joined(first, size, precision, scale)
 }
 
-// A row at its place in memory, and its string, which lies from `start` on, apart.
-fn write_row(mem: &mut [u8], at: usize, row: Entry, start: u16, text: &[u8])
-    requires { ⌜ (at < 65536) × (length (now text) < 65536) ⌝ }
-    ensures { λ _. ⌜ now (mem .exit) ≡ store (now (mem .entry)) at (encodeRow start (rowOf row (now (text .entry)))) ⌝ }
+// A row at its place in memory, and its strings, which lie from `start` on, apart.
+fn write_row(mem: &mut [u8], at: usize, row: Entry, start: u16, text: &[u8], default: &[u8])
+    requires { ⌜ at < 65536 ⌝ }
+    ensures { λ _. ⌜ now (mem .exit) ≡ store (now (mem .entry)) at (encodeRow start (rowWith row (now (text .entry)) (now (default .entry)))) ⌝ }
 {
-    let bytes = bytes_of(row, start, text);
+    let bytes = bytes_of(row, start, text, default);
     copy(mem, at, &bytes);
 }
 
@@ -124,7 +122,7 @@ fn more(n: usize, by: usize) -> usize
     }
 }
 
-// One row more, and the n bytes of its string.
+// One row more, and the n bytes of its strings.
 fn count(counts: Counts, n: usize) -> Counts
     ensures { λ r. ⌜ r ≡ counted counts n ⌝ }
 {
@@ -133,7 +131,7 @@ fn count(counts: Counts, n: usize) -> Counts
     Counts::new(counts.declarations, rows, bytes)
 }
 
-// Is there room for one row more, and the n bytes of its string?
+// Is there room for one row more, and the n bytes of its strings?
 fn has_room(counts: Counts, n: usize) -> bool
     ensures { λ r. ⌜ r ≡ hasRoom counts n ⌝ }
 {
@@ -146,10 +144,10 @@ fn has_room(counts: Counts, n: usize) -> bool
     counts.string_bytes <= Counts::STRING_BYTES - n
 }
 
-// The row behind those that are counted, and its string behind theirs.
-fn write(mem: &mut [u8], counts: Counts, row: Entry, text: &[u8])
-    requires { ⌜ (counts .rows < rowLimit) × (counts .«string_bytes» + length (now text) ≤ stringLimit) ⌝ }
-    ensures { λ _. ⌜ now (mem .exit) ≡ written (now (mem .entry)) counts (rowOf row (now (text .entry))) ⌝ }
+// The row behind those that are counted, and its strings behind theirs.
+fn write(mem: &mut [u8], counts: Counts, row: Entry, text: &[u8], default: &[u8])
+    requires { ⌜ (counts .rows < rowLimit) × (counts .«string_bytes» + (length (now text) + length (now default)) ≤ stringLimit) ⌝ }
+    ensures { λ _. ⌜ now (mem .exit) ≡ written (now (mem .entry)) counts (rowWith row (now (text .entry)) (now (default .entry))) ⌝ }
 {
     let rows = counts.rows;
     let used = counts.string_bytes;
@@ -159,21 +157,38 @@ fn write(mem: &mut [u8], counts: Counts, row: Entry, text: &[u8])
         row,
         used as u16,
         text,
+        default,
     );
     copy(mem, Layout::STRINGS + used, text);
+    copy(mem, Layout::STRINGS + used + text.len(), default);
 }
 
-// One row more with its string, behind those that are counted; past a limit it is counted and not written.
+// One row more with its strings, behind those that are counted; past a limit it is counted and not written.
+pub fn push_both(
+    mem: &mut [u8],
+    counts: Counts,
+    row: Entry,
+    text: &[u8],
+    default: &[u8],
+) -> Counts
+    ensures { λ r. ⌜ (r ≡ counted counts (length (stringsOf (rowWith row (now (text .entry)) (now (default .entry))))))
+        × (now (mem .exit) ≡ pushed (now (mem .entry)) counts (rowWith row (now (text .entry)) (now (default .entry)))) ⌝ }
+{
+    let n = more(text.len(), default.len());
+    let next = count(counts, n);
+    if !has_room(counts, n) {
+        return next;
+    }
+    write(mem, counts, row, text, default);
+    next
+}
+
+// The same of a row without a default.
 pub fn push(mem: &mut [u8], counts: Counts, row: Entry, text: &[u8]) -> Counts
     ensures { λ r. ⌜ (r ≡ counted counts (length (now (text .entry))))
         × (now (mem .exit) ≡ pushed (now (mem .entry)) counts (rowOf row (now (text .entry)))) ⌝ }
 {
-    let next = count(counts, text.len());
-    if !has_room(counts, text.len()) {
-        return next;
-    }
-    write(mem, counts, row, text);
-    next
+    push_both(mem, counts, row, text, &text[0..0])
 }
 
 // The n rows of `from` from row `start` on, pushed one after the other.
@@ -187,7 +202,8 @@ pub fn push_rows(mem: &mut [u8], counts: Counts, from: &[u8], start: usize, n: u
     while i < n {
         let row = read_row(from, start + i);
         let text = string_of(from, start + i);
-        sum = push(mem, sum, row, text);
+        let default = default_of(from, start + i);
+        sum = push_both(mem, sum, row, text, default);
         i += 1;
     }
     sum

@@ -1,4 +1,4 @@
--- `row::read::strings_before` meets its contract: no rows have no bytes, and others end where the last one's string ends.
+-- `row::read::strings_before` meets its contract: no rows have no bytes, and others end where the last one's strings end.
 -- Assumes nothing.
 use Rattle.row.proofs.ReadLaws.{no-rows, some-rows}
 use borrow.Author.Needs.{needs}
@@ -14,17 +14,17 @@ sub-text-start c = search needs
 text-start-requires : tie.Need-text-start-requires
 text-start-requires c κs = search needs
 
-sub-text-length : tie.Need-sub-text-length
-sub-text-length c = search needs
+sub-strings-length : tie.Need-sub-strings-length
+sub-strings-length c = search needs
 
-text-length-requires : tie.Need-text-length-requires
-text-length-requires c κs = search needs
+strings-length-requires : tie.Need-strings-length-requires
+strings-length-requires c κs = search needs
 
 add-result : tie.Need-add-result
 add-result c = search needs
 
 returns-2 : tie.Need-returns-2
-returns-2 c = some-rows _ _ _ _ (c .before .before .if1 .left) (c .before .text-start .ensures .0) (c .text-length .ensures .0)
+returns-2 c = some-rows _ _ _ _ (c .before .before .if1 .left) (c .before .text-start .ensures .0) (c .strings-length .ensures .0)
 
 pub strings-before-spec : {M : Type 1} → statement M
 strings-before-spec =
@@ -33,7 +33,7 @@ strings-before-spec =
     returns
     sub-text-start
     text-start-requires
-    sub-text-length
-    text-length-requires
+    sub-strings-length
+    strings-length-requires
     add-result
     returns-2)

@@ -30,8 +30,8 @@ add-result c = search needs
 returns : tie.Need-returns Inv-loop μ-loop
 returns c = end-stop _ _ (c .before .before .before .loop .i) _ _ (c .before .before .before .loop .inv .2) (c .before .before .loop-test .taken) (sym (not-true _ (c .if1 .taken)) ∙ c .before .tidy-row .ensures)
 
-text-length-requires : tie.Need-text-length-requires Inv-loop μ-loop
-text-length-requires c κs = search needs
+strings-length-requires : tie.Need-strings-length-requires Inv-loop μ-loop
+strings-length-requires c κs = search needs
 
 add-end : tie.Need-add-end Inv-loop μ-loop
 add-end c = search needs
@@ -45,7 +45,7 @@ loop-less c = omega arith
 loop-again : tie.Need-loop-again Inv-loop μ-loop
 loop-again c =
     let t = sym (not-false _ (c .before .if1 .left)) ∙ c .before .before .tidy-row .ensures in
-    (omega arith, end-fits _ _ _ t (c .text-length .ensures .0), end-turn _ _ (c .before .before .before .before .loop .i) _ _ (c .before .before .before .before .loop .inv .2) (c .before .before .before .loop-test .taken) t _ (c .text-length .ensures .0))
+    (omega arith, end-fits _ _ _ t (c .strings-length .ensures .0), end-turn _ _ (c .before .before .before .before .loop .i) _ _ (c .before .before .before .before .loop .inv .2) (c .before .before .before .loop-test .taken) t _ (c .strings-length .ensures .0))
 
 returns-2 : tie.Need-returns-2 Inv-loop μ-loop
 returns-2 c = end-end _ _ (c .before .loop .i) _ _ (c .before .loop .inv .2) (c .loop-test .left)
@@ -60,7 +60,7 @@ rows-end-spec =
     tidy-row-requires
     add-result
     returns
-    text-length-requires
+    strings-length-requires
     add-end
     add-i
     loop-less

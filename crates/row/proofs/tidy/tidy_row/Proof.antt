@@ -1,4 +1,4 @@
--- `row::tidy::tidy_row` meets its contract: the kind, where the string lies, where it ends.
+-- `row::tidy::tidy_row` meets its contract: the kind, where the strings lie, where they end.
 -- Assumes nothing.
 use Rattle.row.proofs.TestLaws.{no-such-kind, other-start, start-there}
 use borrow.Author.Needs.{needs}
@@ -26,14 +26,14 @@ text-start-requires c κs = search needs
 returns-2 : tie.Need-returns-2
 returns-2 c = other-start _ (c .before .before .before .before .before .before .args .i) (c .before .before .before .before .before .before .args .end) _ (c .before .before .before .known .ensures) (c .before .before .if1 .left) _ (c .before .text-start .ensures .0) (c .if2 .taken)
 
-text-length-requires : tie.Need-text-length-requires
-text-length-requires c κs = search needs
+strings-length-requires : tie.Need-strings-length-requires
+strings-length-requires c κs = search needs
 
 add-result : tie.Need-add-result
 add-result c = search needs
 
 returns-3 : tie.Need-returns-3
-returns-3 c = start-there _ (c .before .before .before .before .before .before .before .args .i) (c .before .before .before .before .before .before .before .args .end) _ (c .before .before .before .before .known .ensures) (c .before .before .before .if1 .left) _ (c .before .before .text-start .ensures .0) (c .before .if2 .left) _ (c .text-length .ensures .0)
+returns-3 c = start-there _ (c .before .before .before .before .before .before .before .args .i) (c .before .before .before .before .before .before .before .args .end) _ (c .before .before .before .before .known .ensures) (c .before .before .before .if1 .left) _ (c .before .before .text-start .ensures .0) (c .before .if2 .left) _ (c .strings-length .ensures .0)
 
 pub tidy-row-spec : {M : Type 1} → statement M
 tidy-row-spec =
@@ -46,6 +46,6 @@ tidy-row-spec =
     returns
     text-start-requires
     returns-2
-    text-length-requires
+    strings-length-requires
     add-result
     returns-3)

@@ -9,20 +9,17 @@ use Rattle.row.proofs.write.front.Tie as tie
 number-requires : tie.Need-number-requires
 number-requires c κs = search needs
 
-cast-length : tie.Need-cast-length
-cast-length c = search needs
+cast-t8 : tie.Need-cast-t8
+cast-t8 c = search needs
 
-cast-t9 : tie.Need-cast-t9
-cast-t9 c = search needs
+cast-t11 : tie.Need-cast-t11
+cast-t11 c = search needs
 
-cast-t12 : tie.Need-cast-t12
-cast-t12 c = search needs
+cast-t13 : tie.Need-cast-t13
+cast-t13 c = search needs
 
-cast-t14 : tie.Need-cast-t14
-cast-t14 c = search needs
-
-cast-t17 : tie.Need-cast-t17
-cast-t17 c = search needs
+cast-t16 : tie.Need-cast-t16
+cast-t16 c = search needs
 
 cast-t19 : tie.Need-cast-t19
 cast-t19 c = search needs
@@ -45,11 +42,10 @@ front-spec =
     tie.close
     (tie.spec
     number-requires
-    cast-length
-    cast-t9
-    cast-t12
-    cast-t14
-    cast-t17
+    cast-t8
+    cast-t11
+    cast-t13
+    cast-t16
     cast-t19
     cast-t22
     cast-t24

@@ -1,31 +1,35 @@
--- `row::write::push` meets its contract: where there is no room the row is only counted.
+-- `row::write::push` meets its contract: a row whose default has no bytes.
 -- Assumes nothing.
-use mathlib.Core.Path.{sym, _∙_}
-use borrow.Author.Tests.{not-true, not-false}
-use Rattle.row.proofs.WriteLaws.{room-true, no-push, a-push}
+use Rattle.row.proofs.WriteLaws.{one-counted}
 use borrow.Author.Needs.{needs}
 use Rattle.row.proofs.write.push.Statement.{statement}
 use Rattle.row.proofs.write.push.Tie as tie
 
-count-requires : tie.Need-count-requires
-count-requires c κs = search needs
+sub-push-both : tie.Need-sub-push-both
+sub-push-both c = search needs
 
-has-room-requires : tie.Need-has-room-requires
-has-room-requires c κs = search needs
+part-push-both-start : tie.Need-part-push-both-start
+part-push-both-start c = search needs
 
-returns : tie.Need-returns
-returns c = (c .before .before .count .ensures, no-push _ _ _ (sym (c .before .has-room .ensures) ∙ not-true _ (c .if1 .taken)))
+part-push-both-end : tie.Need-part-push-both-end
+part-push-both-end c = search needs
 
-write-requires : tie.Need-write-requires
-write-requires c κs = room-true _ _ (sym (c .before .before .has-room .ensures) ∙ not-false _ (c .before .if1 .left))
+push-both-requires : tie.Need-push-both-requires
+push-both-requires c κs = search needs
 
 same-length : tie.Need-same-length
 same-length c = search needs
 
-returns-2 : tie.Need-returns-2
-returns-2 c = (c .before .before .before .before .before .before .count .ensures, a-push _ _ _ (sym (c .before .before .before .before .before .has-room .ensures) ∙ not-false _ (c .before .before .before .before .if1 .left)) _ (c .before .before .write .ensures))
+returns : tie.Need-returns
+returns c = (one-counted _ _ _ _ (c .before .before .push-both .ensures .0), c .before .before .push-both .ensures .1)
 
 pub push-spec : {M : Type 1} → statement M
 push-spec =
     tie.close
-    (tie.spec count-requires has-room-requires returns write-requires same-length returns-2)
+    (tie.spec
+    sub-push-both
+    part-push-both-start
+    part-push-both-end
+    push-both-requires
+    same-length
+    returns)

@@ -33,8 +33,14 @@ add-string-of c = search needs
 string-of-requires : tie.Need-string-of-requires Inv-loop μ-loop
 string-of-requires c κs = search needs
 
-push-requires : tie.Need-push-requires Inv-loop μ-loop
-push-requires c κs = search needs
+add-default-of : tie.Need-add-default-of Inv-loop μ-loop
+add-default-of c = search needs
+
+default-of-requires : tie.Need-default-of-requires Inv-loop μ-loop
+default-of-requires c κs = search needs
+
+push-both-requires : tie.Need-push-both-requires Inv-loop μ-loop
+push-both-requires c κs = search needs
 
 add-i : tie.Need-add-i Inv-loop μ-loop
 add-i c = search needs
@@ -44,9 +50,9 @@ loop-less c = omega arith
 
 loop-again : tie.Need-loop-again Inv-loop μ-loop
 loop-again c =
-    let l = c .before .before .before .before .before .before .before in
-    let t = push-turn _ _ _ (c .before .before .before .before .before .before .before .before .before .before .args .start) (c .before .before .before .before .before .before .before .before .before .before .args .n) (l .loop .i) _ _ (l .loop .inv .2) (l .loop .inv .3) (c .before .before .before .before .before .before .loop-test .taken) _ _ (c .before .before .before .before .before .read-row .ensures) (c .before .before .before .before .string-of .ensures .0) _ _ (c .before .before .push .ensures .0) (c .before .before .push .ensures .1) in
-    (omega arith, c .before .before .push .kept .0 ∙ l .loop .inv .1, t .0, t .1)
+    let l = c .before .before .before .before .before .before .before .before in
+    let t = push-turn _ _ _ (c .before .before .before .before .before .before .before .before .before .before .before .args .start) (c .before .before .before .before .before .before .before .before .before .before .before .args .n) (l .loop .i) _ _ (l .loop .inv .2) (l .loop .inv .3) (c .before .before .before .before .before .before .before .loop-test .taken) _ _ _ (c .before .before .before .before .before .before .read-row .ensures) (c .before .before .before .before .before .string-of .ensures .0) (c .before .before .before .before .default-of .ensures .0) _ _ (c .before .before .push-both .ensures .0) (c .before .before .push-both .ensures .1) in
+    (omega arith, c .before .before .push-both .kept .0 ∙ l .loop .inv .1, t .0, t .1)
 
 same-length : tie.Need-same-length Inv-loop μ-loop
 same-length c = c .before .loop .inv .1
@@ -65,7 +71,9 @@ push-rows-spec =
     read-row-requires
     add-string-of
     string-of-requires
-    push-requires
+    add-default-of
+    default-of-requires
+    push-both-requires
     add-i
     loop-less
     loop-again
