@@ -1,26 +1,27 @@
 -- What a set cites: well-formed memory is exactly the encoding of a good set, and how good sets grow and are cut.
 -- Assumes nothing.
 use mathlib.Core.Path.{_≡_, refl, sym, ap, _∙_}
-use mathlib.Core.Bool.{Bool, true, false, cond, _&&_}
+use mathlib.Core.Bool.{Bool, true, false, not, cond, _&&_, _||_}
 use mathlib.Core.List.{List, [], _∷_, _++_, append-nil}
 use Prim.Native.Nat.{ℕ, _+_, _^_, _<_, _≤_}
 use native.Mathlib.Omega.{arith}
-use lib.Dec.{eqb, leb, ltb}
+use lib.Dec.{eqb, leb, ltb, lit≤}
 use lib.ListN.{length, take, drop, length-append, take-append-drop}
 use borrow.Author.Tests.{lt-ltb, ltb-true, leb-true, eqb-true}
-use Rattle.ground.proofs.Laws.{and-true, and-intro}
-use Rattle.name.specs.Name.{every}
+use Rattle.ground.proofs.Laws.{never, and-true, and-intro}
+use Rattle.name.specs.Name.{every, isEmpty, isSimple, isDotted, isReserved}
+use Rattle.name.specs.Full.{isShort, keptLimit}
 use Rattle.json.specs.Json.{longest}
 use Rattle.row.specs.Layout.{declarationLimit, rowLimit, stringLimit, layoutLength}
 use Rattle.row.specs.Rows.{Row, fits, allFit, texts}
 use Rattle.row.specs.Sets.{flat, zeros, encode, decode, Within, isEncoding}
 use Rattle.row.specs.declared.kind.Kind.{Kind}
-use Rattle.row.specs.declared.kind.Kind.the-variants.{Bytes, Fixed}
+use Rattle.row.specs.declared.kind.Kind.the-variants.{Bytes, Reference, Fixed, Field, Symbol, Alias, FieldAlias}
 use Rattle.row.proofs.RowLaws.{fit-both, texts-append}
 use Rattle.row.proofs.SetLaws.{flat-append}
 use Rattle.row.proofs.Laws.{decode-encode, encode-none, encoding-true, true-encoding}
-use Rattle.resolve.specs.Kinds.{isKind, isSchema}
-use Rattle.resolve.specs.Rules.{goodText, goodSize, goodNote, goodPrecision, goodDecimal, goodNumbers, goodParts, goodRow, goodRows, climbs, isDeclaration}
+use Rattle.resolve.specs.Kinds.{isKind, isDefinition, isSchema}
+use Rattle.resolve.specs.Rules.{isFullName, isOwnName, goodText, goodStrings, goodSize, goodNote, goodPrecision, goodDecimal, goodNumbers, goodParts, goodRow, goodRows, climbs, isDeclaration}
 use Rattle.resolve.specs.Resolve.{faultIn, orElse, isResolved, resolves}
 use Rattle.resolve.specs.WellFormed.{Good, keepsRules, wellFormed}
 use Rattle.resolve.specs.declared.Resolution.{Resolution}
@@ -77,20 +78,57 @@ decimal-fits n p s e = go (eqb n 1) e
         let a = and-true (eqb p 0) _ e in
         (omega (arith, eqb-true p 0 (a .0)), omega (arith, eqb-true s 0 (a .1)))
 
-numbers-fit : (r : Row) → goodNumbers r ≡ true → r .depth < 2 ^ 16 → fits r ≡ true
+short-fits : (s : List ℕ) → isShort s ≡ true → length s < 2 ^ 8
+unfolding isShort
+short-fits s e = omega (arith, leb-true (length s) keptLimit e)
+
+empty-fits : (s : List ℕ) → isEmpty s ≡ true → length s < 2 ^ 8
+unfolding isEmpty
+empty-fits [] e = lit≤ tt
+empty-fits (b ∷ s) e = never e
+
+text-fits : (k : Kind) (s : List ℕ) → goodText k s ≡ true → length s < 2 ^ 8
+unfolding goodText isFullName isOwnName
+text-fits k s e = go (isDefinition k || isKind Alias k) (isKind Reference k) (isKind Field k || isKind FieldAlias k || isKind Symbol k) e
+  where
+    go : (x y z : Bool) → cond x (isShort s && isDotted s && not (isReserved s)) (cond y (isShort s && isDotted s) (cond z (isShort s && isSimple s) (isEmpty s))) ≡ true → length s < 2 ^ 8
+    go true y z e = short-fits s (and-true (isShort s) (isDotted s) (and-true (isShort s && isDotted s) _ e .0) .0)
+    go false true z e = short-fits s (and-true (isShort s) (isDotted s) e .0)
+    go false false true e = short-fits s (and-true (isShort s) (isSimple s) e .0)
+    go false false false e = empty-fits s e
+
+pub strings-text : (r : Row) → goodStrings r ≡ true → goodText (r .kind) (r .text) ≡ true
+unfolding goodStrings
+strings-text r e = and-true (goodText (r .kind) (r .text)) (isEmpty (r .default)) e .0
+
+strings-fit : (r : Row) → goodStrings r ≡ true → (length (r .text) < 2 ^ 8) × (length (r .default) < 2 ^ 8)
+unfolding goodStrings
+strings-fit r e =
+    let a = and-true (goodText (r .kind) (r .text)) (isEmpty (r .default)) e in
+    (text-fits (r .kind) (r .text) (a .0), empty-fits (r .default) (a .1))
+
+row-fits : (r : Row) → goodStrings r ≡ true → goodNumbers r ≡ true → r .depth < 2 ^ 16 → fits r ≡ true
 unfolding fits
-numbers-fit r e h =
+row-fits r s e h =
     let g = numbered r e in
     let p : r .position < 2 ^ 16 = omega (arith, g .position) in
     let d = decimal-fits (r .note) (r .precision) (r .scale) (g .decimal) in
-    rw (lt-ltb (r .depth) (2 ^ 16) h, lt-ltb (r .position) (2 ^ 16) p, lt-ltb (r .size) (2 ^ 64) (size-fits (r .kind) (r .size) (g .size)), lt-ltb (r .note) (2 ^ 8) (note-fits (r .kind) (r .note) (g .note)), lt-ltb (r .precision) (2 ^ 64) (d .0), lt-ltb (r .scale) (2 ^ 64) (d .1))
+    let l = strings-fit r s in
+    rw (lt-ltb (r .depth) (2 ^ 16) h, lt-ltb (r .position) (2 ^ 16) p, lt-ltb (r .size) (2 ^ 64) (size-fits (r .kind) (r .size) (g .size)), lt-ltb (r .note) (2 ^ 8) (note-fits (r .kind) (r .note) (g .note)), lt-ltb (r .precision) (2 ^ 64) (d .0), lt-ltb (r .scale) (2 ^ 64) (d .1), lt-ltb (length (r .text)) (2 ^ 8) (l .0), lt-ltb (length (r .default)) (2 ^ 8) (l .1))
+
+-- what a good row keeps
+pub row-keeps : (r : Row) (rest : List Row) → goodRow r rest ≡ true → (goodStrings r ≡ true) × (goodNumbers r ≡ true)
+unfolding goodRow
+row-keeps r rest e =
+    let a = and-true (goodStrings r && goodNumbers r && goodParts r rest) _ e in
+    let b = and-true (goodStrings r && goodNumbers r) _ (a .0) in
+    and-true (goodStrings r) (goodNumbers r) (b .0)
 
 pub row-numbers : (r : Row) (rest : List Row) → goodRow r rest ≡ true → goodNumbers r ≡ true
-unfolding goodRow
-row-numbers r rest e =
-    let a = and-true (goodText (r .kind) (r .text) && goodNumbers r && goodParts r rest) _ e in
-    let b = and-true (goodText (r .kind) (r .text) && goodNumbers r) _ (a .0) in
-    and-true (goodText (r .kind) (r .text)) _ (b .0) .1
+row-numbers r rest e = row-keeps r rest e .1
+
+good-fits : (r : Row) (rest : List Row) → goodRow r rest ≡ true → r .depth < 2 ^ 16 → fits r ≡ true
+good-fits r rest e h = let k = row-keeps r rest e in row-fits r (k .0) (k .1) h
 
 -- each row is at most one deeper than the row before it
 rows-fit : (d : ℕ) (rows : List Row) → climbs d rows ≡ true → goodRows rows ≡ true → d + length rows < 2 ^ 16 → allFit rows ≡ true
@@ -100,7 +138,7 @@ rows-fit d (r ∷ rows) c g h =
     let a = and-true (leb 1 (r .depth) && leb (r .depth) (d + 1)) (climbs (r .depth) rows) c in
     let b = leb-true (r .depth) (d + 1) (and-true (leb 1 (r .depth)) _ (a .0) .1) in
     let p = and-true (goodRow r rows) (goodRows rows) g in
-    and-intro (fits r) (allFit rows) (numbers-fit r (row-numbers r rows (p .0)) (omega arith)) (rows-fit (r .depth) rows (a .1) (p .1) (omega arith))
+    and-intro (fits r) (allFit rows) (good-fits r rows (p .0) (omega arith)) (rows-fit (r .depth) rows (a .1) (p .1) (omega arith))
 
 pub declaration-fits : (rows : List Row) → isDeclaration rows ≡ true → length rows ≤ rowLimit → allFit rows ≡ true
 unfolding isDeclaration goodRows allFit
@@ -110,7 +148,7 @@ declaration-fits (r ∷ rows) e h =
     let b = and-true (eqb (r .depth) 0 && isSchema (r .kind)) (climbs 0 rows) (a .0) in
     let z = eqb-true (r .depth) 0 (and-true (eqb (r .depth) 0) _ (b .0) .0) in
     let p = and-true (goodRow r rows) (goodRows rows) (a .1) in
-    and-intro (fits r) (allFit rows) (numbers-fit r (row-numbers r rows (p .0)) (omega arith)) (rows-fit 0 rows (b .1) (p .1) (omega arith))
+    and-intro (fits r) (allFit rows) (good-fits r rows (p .0) (omega arith)) (rows-fit 0 rows (b .1) (p .1) (omega arith))
 
 declarations-fit : (ds : List (List Row)) → every isDeclaration ds ≡ true → length (flat ds) ≤ rowLimit → allFit (flat ds) ≡ true
 unfolding every flat allFit

@@ -10,14 +10,14 @@ use lib.Seq.{drop-drop}
 use Rattle.row.specs.Layout.{rowSize, rowsStart, stringsStart}
 use Rattle.row.specs.Rows.{Row, rowsOf}
 use Rattle.row.specs.Sets.{rowsFrom}
-use Rattle.row.specs.Memory.{entryAt, textAt, rowAt}
+use Rattle.row.specs.Memory.{entryAt, textAt, defaultAt, rowAt}
 
 pub rows-none : (m : List ℕ) (i : ℕ) → rowsFrom m 0 i ≡ []
 unfolding rowsFrom rowsOf
 rows-none m i = refl
 
 pub rows-cons : (m : List ℕ) (n i : ℕ) → rowsFrom m (suc n) i ≡ rowAt m i ∷ rowsFrom m n (i + 1)
-unfolding rowsFrom rowsOf entryAt textAt
+unfolding rowsFrom rowsOf entryAt textAt defaultAt
 rows-cons m n i =
     let e : rowsStart + rowSize * i + rowSize ≡ rowsStart + rowSize * (i + 1) = omega arith in
     ap (λ (l : List ℕ). rowAt m i ∷ rowsOf (drop stringsStart m) n l) (drop-drop rowSize (rowsStart + rowSize * i) m ∙ ap (λ (k : ℕ). drop k m) e)

@@ -1,7 +1,7 @@
 -- The turns of the walks over the rows under a row, over plain values.
 -- Assumes nothing.
 use mathlib.Core.Path.{_≡_, refl, sym, ap, _∙_}
-use mathlib.Core.Bool.{Bool, true, false, cond, _||_, and-false}
+use mathlib.Core.Bool.{Bool, true, false, cond, _||_, and-true, and-false}
 use mathlib.Core.List.{List, [], _∷_}
 use Prim.Native.Nat.{ℕ, zero, suc, _+_, _-_, _<_, _≤_}
 use native.Mathlib.Nat.{add-zero}
@@ -10,14 +10,14 @@ use native.Mathlib.Omega.{arith}
 use lib.Dec.{eqb, eqb·suc-zero}
 use lib.ListN.{length}
 use borrow.Author.Tests.{lt-ltb, le-ltb, le-leb, lt-leb, eq-eqb, ne-eqb}
-use Rattle.name.specs.Name.{every}
+use Rattle.name.specs.Name.{every, isEmpty}
 use Rattle.row.specs.Rows.{Row}
 use Rattle.row.specs.Sets.{rowsFrom}
-use Rattle.row.specs.Memory.{entryAt, textAt, rowAt}
+use Rattle.row.specs.Memory.{entryAt, textAt, defaultAt, rowAt}
 use Rattle.row.specs.declared.kind.Kind.{Kind}
 use Rattle.row.specs.declared.kind.Kind.the-variants.{Union, Record, Enum}
 use Rattle.resolve.specs.Kinds.{isKind, isSchema, isPartOf, past, bodyFits, partsFit}
-use Rattle.resolve.specs.Rules.{goodText, goodNumbers, under, kindsAt, takesName, sameSymbol, sameMember, clash, some, noTwo, goodParts, noClash, goodRow, goodRows, climbs, isDeclaration}
+use Rattle.resolve.specs.Rules.{goodText, goodStrings, goodNumbers, under, kindsAt, takesName, sameSymbol, sameMember, clash, some, noTwo, goodParts, noClash, goodRow, goodRows, climbs, isDeclaration}
 use Rattle.resolve.specs.Steps.{isLeading, mayEnd, leftFit, isRuled}
 use Rattle.resolve.proofs.MemoryLaws.{rows-none, rows-cons, rows-next, rows-end}
 
@@ -171,13 +171,33 @@ module _ (m : List ℕ) (end j : ℕ) (x : Bool) (inv : x ≡ goodRows (rowsFrom
   unfolding goodRows
   good-more l e = inv ∙ rw (rows-next m j end l, e)
 
+-- a row's strings
+no-bytes : (s : List ℕ) → length s ≡ 0 → isEmpty s ≡ true
+unfolding isEmpty
+no-bytes [] h = refl
+no-bytes (b ∷ s) h = absurd (omega arith)
+
+some-bytes : (s : List ℕ) → (length s ≡ 0 → ⊥) → isEmpty s ≡ false
+unfolding isEmpty
+some-bytes [] h = absurd (h refl)
+some-bytes (b ∷ s) h = refl
+
+module _ (m : List ℕ) (i : ℕ) (d : List ℕ) (e : d ≡ defaultAt m i) where
+  pub a-default : (length d ≡ 0 → ⊥) → false ≡ goodStrings (rowAt m i)
+  unfolding goodStrings
+  a-default h = rw (← e, some-bytes d h, and-false)
+
+  pub no-default : length d ≡ 0 → goodText (entryAt m i .kind) (textAt m i) ≡ goodStrings (rowAt m i)
+  unfolding goodStrings
+  no-default h = rw (← e, no-bytes d h, and-true)
+
 -- a row's tests, one after the other
 module _ (m : List ℕ) (i : ℕ) (rest : List Row) where
-  pub row-text : goodText (entryAt m i .kind) (textAt m i) ≡ false → false ≡ goodRow (rowAt m i) rest
+  pub row-strings : goodStrings (rowAt m i) ≡ false → false ≡ goodRow (rowAt m i) rest
   unfolding goodRow
-  row-text t = rw t
+  row-strings t = rw t
 
-  module _ (t : goodText (entryAt m i .kind) (textAt m i) ≡ true) where
+  module _ (t : goodStrings (rowAt m i) ≡ true) where
     pub row-numbers : goodNumbers (rowAt m i) ≡ false → false ≡ goodRow (rowAt m i) rest
     unfolding goodRow
     row-numbers u = rw (t, u)

@@ -14,7 +14,7 @@ use Rattle.row.specs.declared.kind.Kind.{Kind}
 use Rattle.row.specs.declared.kind.Kind.the-variants.{Bytes, Reference, Union, Record, Enum, Fixed, Field, Symbol, Alias, FieldAlias}
 use Rattle.resolve.specs.Kinds.{isKind, isDefinition, isNamed, isSchema, partsFit}
 
--- ---- one row: its string and its numbers
+-- ---- one row: its strings and its numbers
 
 -- a kept full name: 7 and 9
 unfoldable pub isFullName : List ℕ → Bool
@@ -31,6 +31,10 @@ goodText kind text =
     (cond (isKind Reference kind) (isFullName text)
     (cond (isKind Field kind || isKind FieldAlias kind || isKind Symbol kind) (isOwnName text)
     (isEmpty text)))
+
+-- no row keeps a default
+unfoldable pub goodStrings : Row → Bool
+goodStrings r = goodText (r .kind) (r .text) && isEmpty (r .default)
 
 unfoldable pub goodSize : Kind → ℕ → Bool
 goodSize kind size = cond (isKind Fixed kind) (ltb size (2 ^ 64)) (eqb size 0)
@@ -118,7 +122,7 @@ unfoldable pub noClash : Row → List Row → Bool
 noClash r rest = noTwo (clash (r .kind) (r .depth)) (under (r .depth) rest)
 
 unfoldable pub goodRow : Row → List Row → Bool
-goodRow r rest = goodText (r .kind) (r .text) && goodNumbers r && goodParts r rest && noClash r rest
+goodRow r rest = goodStrings r && goodNumbers r && goodParts r rest && noClash r rest
 
 unfoldable pub goodRows : List Row → Bool
 goodRows [] = true

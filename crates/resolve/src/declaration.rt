@@ -2,12 +2,11 @@
 use crate::clash::no_clash;
 use crate::kinds::is_schema;
 use crate::numbers::good_numbers;
-use crate::strings::good_text;
+use crate::strings::good_strings;
 use crate::tree::good_parts;
 use chains::SLOTS;
 use row::read::depth_at;
 use row::read::kind_number;
-use row::read::string_of;
 ghost use mathlib.Core.Path.{_≡_};
 ghost use Prim.Native.Nat.{_+_, _-_, _≤_, _<_};
 ghost use lib.ListN.{length};
@@ -23,7 +22,7 @@ fn good_row(mem: &[u8], i: usize, end: usize, first: &mut [u16], next: &mut [u16
     ensures { λ r. ⌜ (r ≡ goodRow (rowAt (now (mem .entry)) i) (rowsFrom (now (mem .entry)) (end - (i + 1)) (i + 1))) × Sized (now (first .exit)) (now (next .exit)) ⌝ }
 {
     let kind = kind_number(mem, i);
-    if !good_text(kind, string_of(mem, i)) {
+    if !good_strings(mem, kind, i) {
         return false;
     }
     if !good_numbers(mem, kind, i) {

@@ -1,4 +1,4 @@
-// The string that a row keeps, by its kind's number.
+// The strings that a row keeps, by its kind's number.
 use crate::kinds::is_definition;
 use crate::kinds::is_kind;
 use name::Full;
@@ -6,14 +6,20 @@ use name::is_dotted;
 use name::is_reserved;
 use name::is_simple;
 use row::Kind;
+use row::read::default_of;
+use row::read::string_of;
 ghost use mathlib.Core.Path.{_≡_};
 ghost use mathlib.Core.Bool.{not, _&&_, _||_};
+ghost use Prim.Native.Nat.{_<_};
+ghost use lib.ListN.{length};
 ghost use Rattle.name.specs.Name.{isReserved};
 ghost use Rattle.row.specs.Kinds.{kindNumber};
+ghost use Rattle.row.specs.Layout.{rowLimit, layoutLength};
+ghost use Rattle.row.specs.Memory.{entryAt, rowAt};
 ghost use Rattle.row.specs.declared.kind.Kind.{Kind};
 ghost use Rattle.row.specs.declared.kind.Kind.the-variants.{Field, Symbol, Alias, FieldAlias};
 ghost use Rattle.resolve.specs.Kinds.{isKind, isDefinition};
-ghost use Rattle.resolve.specs.Rules.{isFullName, isOwnName, goodText};
+ghost use Rattle.resolve.specs.Rules.{isFullName, isOwnName, goodText, goodStrings};
 
 fn is_full_name(s: &[u8]) -> bool
     ensures { λ r. ⌜ r ≡ isFullName (now (s .entry)) ⌝ }
@@ -65,7 +71,7 @@ fn has_own_name(kind: u8) -> bool
     is_kind(Kind::Symbol, kind)
 }
 
-pub fn good_text(kind: u8, text: &[u8]) -> bool
+fn good_text(kind: u8, text: &[u8]) -> bool
     ensures { λ r. ⌜ ((k : Kind) → kind ≡ kindNumber k → r ≡ goodText k (now (text .entry))) ⌝ }
 {
     if defines_or_alias(kind) {
@@ -78,4 +84,15 @@ pub fn good_text(kind: u8, text: &[u8]) -> bool
         return is_own_name(text);
     }
     text.len() == 0
+}
+
+// Row i, whose kind has this number.
+pub fn good_strings(mem: &[u8], kind: u8, i: usize) -> bool
+    requires { ⌜ (length (now mem) ≡ layoutLength) × (i < rowLimit) × (kind ≡ kindNumber (entryAt (now mem) i .kind)) ⌝ }
+    ensures { λ r. ⌜ r ≡ goodStrings (rowAt (now (mem .entry)) i) ⌝ }
+{
+    if default_of(mem, i).len() != 0 {
+        return false;
+    }
+    good_text(kind, string_of(mem, i))
 }
