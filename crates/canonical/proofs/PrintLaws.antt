@@ -17,8 +17,8 @@ use Rattle.row.specs.Rows.{Row}
 use Rattle.row.specs.declared.kind.Kind.{Kind}
 use Rattle.row.specs.declared.kind.Kind.the-variants.{Null, Boolean, Int, Long, Float, Double, Bytes, String, Reference, Array, Map, Union, Record, Enum, Fixed, Field, Symbol, Alias, FieldAlias}
 use Rattle.resolve.specs.Kinds.{isKind, isDefinition, isSchema}
-use Rattle.resolve.specs.Rules.{isFullName, isOwnName, goodText, goodNumbers, goodParts, goodRow, goodRows, under, climbs, isDeclaration}
-use Rattle.resolve.proofs.Laws.{every-append}
+use Rattle.resolve.specs.Rules.{isFullName, isOwnName, goodText, goodRow, goodRows, under, climbs, isDeclaration}
+use Rattle.resolve.proofs.Laws.{every-append, strings-text, row-keeps}
 use Rattle.canonical.specs.Decimal.{digit, digitsOf, decimal}
 use Rattle.canonical.specs.Pieces.{quoted, named, opening, closing}
 use Rattle.canonical.specs.Claims.{isPrintable}
@@ -238,14 +238,11 @@ text-prints (suc n) (r ∷ rows) e =
     both (opening (r .kind) (r .text) (r .size)) (inner ++ closing (r .kind)) (opening-prints (r .kind) (r .text) (r .size) (a .0)) (both inner (closing (r .kind)) k (closing-prints (r .kind)))
 
 good-prints : (rows : List Row) → goodRows rows ≡ true → every prints rows ≡ true
-unfolding goodRows goodRow every prints
+unfolding goodRows every prints
 good-prints [] e = refl
 good-prints (r ∷ rows) e =
     let a = and-true (goodRow r rows) (goodRows rows) e in
-    let b = and-true (goodText (r .kind) (r .text) && goodNumbers r && goodParts r rows) _ (a .0) in
-    let c = and-true (goodText (r .kind) (r .text) && goodNumbers r) _ (b .0) in
-    let t = and-true (goodText (r .kind) (r .text)) _ (c .0) in
-    and-intro (prints r) (every prints rows) (name (r .kind) (r .text) (t .0)) (good-prints rows (a .1))
+    and-intro (prints r) (every prints rows) (name (r .kind) (r .text) (strings-text r (row-keeps r rows (a .0) .0))) (good-prints rows (a .1))
 
 -- PRINTABLE ASCII
 pub printable : (rows : List Row) → isDeclaration rows ≡ true → every isPrintable (canonicalOf rows) ≡ true

@@ -15,7 +15,7 @@ use Rattle.row.specs.Kinds.{kindNumber}
 use Rattle.row.specs.declared.kind.Kind.{Kind}
 use Rattle.row.specs.declared.kind.Kind.the-variants.{Null, Boolean, Int, Long, Float, Double, Bytes, String, Reference, Array, Map, Union, Record, Enum, Fixed, Field, Symbol, Alias, FieldAlias}
 use Rattle.resolve.specs.Kinds.{isKind, isDefinition, isSchema, isAliasOf, hasOne, isPartOf, past, bodyFits, partsFit}
-use Rattle.resolve.specs.Rules.{under, kindsAt, goodText, goodNumbers, goodParts, goodRow, goodRows, climbs, isDeclaration}
+use Rattle.resolve.specs.Rules.{under, kindsAt, goodStrings, goodNumbers, goodParts, goodRow, goodRows, climbs, isDeclaration}
 use Rattle.resolve.proofs.KindLaws.{schema-number, kind-not}
 use Rattle.canonical.specs.Pieces.{opening, closing}
 use Rattle.canonical.specs.Canonical.{isWritten, startsAt, partsOf, listed, textOf, canonicalOf}
@@ -163,7 +163,7 @@ leaf d (r ∷ rows) k c = go (ltb d (r .depth)) refl k
 
 good-parts : (r : Row) (rows : List Row) → goodRow r rows ≡ true → goodParts r rows ≡ true
 unfolding goodRow
-good-parts r rows e = and-true (goodText (r .kind) (r .text) && goodNumbers r) _ (and-true (goodText (r .kind) (r .text) && goodNumbers r && goodParts r rows) _ e .0) .1
+good-parts r rows e = and-true (goodStrings r && goodNumbers r) _ (and-true (goodStrings r && goodNumbers r && goodParts r rows) _ e .0) .1
 
 row-leafy : (r : Row) (rows : List Row) → goodRow r rows ≡ true → climbs (r .depth) rows ≡ true → (isWritten (r .kind) || isNone (under (r .depth) rows)) ≡ true
 unfolding isNone goodParts

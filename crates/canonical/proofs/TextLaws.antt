@@ -10,7 +10,8 @@ use lib.ListN.{length, length-append}
 use borrow.Author.Tests.{le-ltb, ltb-true, ltb-false, eqb-true}
 use Rattle.ground.specs.Ascii.{ascii}
 use Rattle.ground.proofs.Laws.{and-true}
-use Rattle.row.specs.Rows.{Row, texts}
+use Rattle.row.specs.Rows.{Row, stringsOf, texts}
+use Rattle.row.proofs.RowLaws.{length-strings}
 use Rattle.row.specs.declared.kind.Kind.{Kind}
 use Rattle.row.specs.declared.kind.Kind.the-variants.{Null, Boolean, Int, Long, Float, Double, Bytes, String, Reference, Array, Map, Union, Record, Enum, Fixed, Field, Symbol, Alias, FieldAlias}
 use Rattle.resolve.specs.Rules.{under}
@@ -54,9 +55,9 @@ cost-none : cost [] ≡ 0
 unfolding cost texts
 cost-none = refl
 
-cost-cons : (r : Row) (rows : List Row) → cost (r ∷ rows) ≡ rowCost + length (r .text) + cost rows
+cost-cons : (r : Row) (rows : List Row) → cost (r ∷ rows) ≡ rowCost + length (r .text) + length (r .default) + cost rows
 unfolding cost texts
-cost-cons r rows = omega (arith, length-append (r .text) (texts rows))
+cost-cons r rows = omega (arith, length-append (stringsOf r) (texts rows), length-strings r)
 
 listed-longer : (p : List ℕ) (ps : List (List ℕ)) → length (listed (p ∷ ps)) ≤ length p + 1 + length (listed ps)
 unfolding listed

@@ -14,14 +14,15 @@ use Rattle.name.specs.Name.{every, isEmpty, isDotted, isReserved}
 use Rattle.name.specs.Full.{isShort}
 use Rattle.name.proofs.Laws.{dotted-some}
 use Rattle.row.specs.Layout.{stringsStart}
-use Rattle.row.specs.Rows.{Row, texts}
+use Rattle.row.specs.Rows.{Row, stringsOf, texts}
 use Rattle.row.specs.Sets.{flat, decode}
-use Rattle.row.proofs.RowLaws.{texts-append}
+use Rattle.row.proofs.RowLaws.{length-strings, texts-append}
 use Rattle.row.specs.declared.kind.Kind.{Kind}
 use Rattle.row.specs.declared.kind.Kind.the-variants.{Reference, Field, Symbol, Alias, FieldAlias}
 use Rattle.resolve.specs.Kinds.{isKind, isDefinition, isNamed}
-use Rattle.resolve.specs.Rules.{isFullName, isOwnName, goodText, goodNumbers, goodParts, noClash, goodRow, goodRows, isDeclaration}
+use Rattle.resolve.specs.Rules.{isFullName, isOwnName, goodText, goodRow, goodRows, isDeclaration}
 use Rattle.resolve.specs.WellFormed.{wellFormed}
+use Rattle.resolve.proofs.Laws.{strings-text, row-keeps}
 use Rattle.kept.proofs.Good.{declaration-first}
 use Rattle.set.specs.Naming.{hasFullName, nameAmong, nameIn, fullNameIn, startAmong, startIn, fullNameStart, namingOf}
 use Rattle.demands.specs.Building.{At, first, behind, Nameless, no-place, no-row, no-name}
@@ -43,11 +44,7 @@ text-some k s h e = go (isDefinition k) (isKind Reference k) (isKind Alias k) h 
     go false false false p q = never p
 
 row-text : (r : Row) (rest : List Row) → goodRow r rest ≡ true → goodText (r .kind) (r .text) ≡ true
-unfolding goodRow
-row-text r rest e =
-    let a = and-true (goodText (r .kind) (r .text) && goodNumbers r && goodParts r rest) (noClash r rest) e in
-    let b = and-true (goodText (r .kind) (r .text) && goodNumbers r) (goodParts r rest) (a .0) in
-    and-true (goodText (r .kind) (r .text)) (goodNumbers r) (b .0) .0
+row-text r rest e = strings-text r (row-keeps r rest e .0)
 
 -- a row of a good set is a good row, with the rows behind it
 rows-good : {rows : List Row} {i : ℕ} {r : Row} → goodRows rows ≡ true → At rows i r → (rest : List Row) × (goodRow r rest ≡ true)
@@ -177,8 +174,8 @@ start-among : {rows : List Row} {i : ℕ} {r : Row} (at : ℕ) → At rows i r �
 unfolding startAmong texts
 start-among at first = rw add-zero
 start-among at (behind {y = y} {xs = xs} {place = i} a) =
-    let k : at + length (y .text) + length (texts (take i xs)) ≡ at + length (y .text ++ texts (take i xs)) = omega (arith, length-append (y .text) (texts (take i xs))) in
-    start-among (at + length (y .text)) a ∙ rw k
+    let k : at + length (stringsOf y) + length (texts (take i xs)) ≡ at + length (stringsOf y ++ texts (take i xs)) = omega (arith, length-append (stringsOf y) (texts (take i xs))) in
+    start-among (at + length (stringsOf y)) a ∙ rw k
 
 start-at : {ds : List (List Row)} {place i : ℕ} {rows : List Row} {r : Row} (at : ℕ) → At ds place rows → At rows i r
     → startIn at ds place i ≡ cond (hasFullName (r .kind)) (at + length (texts (flat (take place ds) ++ take i rows))) 0
@@ -212,18 +209,18 @@ unfolding nameAmong startAmong texts
 among-within [] at i h = absurd (h refl)
 among-within (r ∷ rows) at zero h =
     let z = first-there r h at rows in
-    (omega (arith, z .0), omega (arith, z .0, z .1, length-append (r .text) (texts rows)))
+    (omega (arith, z .0), omega (arith, z .0, z .1, length-strings r, length-append (stringsOf r) (texts rows)))
 among-within (r ∷ rows) at (suc i) h =
-    let z = among-within rows (at + length (r .text)) i h in
-    (omega (arith, z .0), omega (arith, z .1, length-append (r .text) (texts rows)))
+    let z = among-within rows (at + length (stringsOf r)) i h in
+    (omega (arith, z .0), omega (arith, z .1, length-append (stringsOf r) (texts rows)))
 
 among-one : (rows : List Row) (at i j : ℕ) → (nameAmong rows i ≡ [] → ⊥) → (nameAmong rows j ≡ [] → ⊥) → startAmong at rows i ≡ startAmong at rows j → i ≡ j
 unfolding nameAmong startAmong
 among-one [] at i j h k e = absurd (h refl)
 among-one (r ∷ rows) at zero zero h k e = refl
-among-one (r ∷ rows) at zero (suc j) h k e = let z = first-there r h at rows in absurd (omega (arith, e, z .0, z .1, among-within rows (at + length (r .text)) j k .0))
-among-one (r ∷ rows) at (suc i) zero h k e = let z = first-there r k at rows in absurd (omega (arith, e, z .0, z .1, among-within rows (at + length (r .text)) i h .0))
-among-one (r ∷ rows) at (suc i) (suc j) h k e = ap suc (among-one rows (at + length (r .text)) i j h k e)
+among-one (r ∷ rows) at zero (suc j) h k e = let z = first-there r h at rows in absurd (omega (arith, e, z .0, z .1, length-strings r, among-within rows (at + length (stringsOf r)) j k .0))
+among-one (r ∷ rows) at (suc i) zero h k e = let z = first-there r k at rows in absurd (omega (arith, e, z .0, z .1, length-strings r, among-within rows (at + length (stringsOf r)) i h .0))
+among-one (r ∷ rows) at (suc i) (suc j) h k e = ap suc (among-one rows (at + length (stringsOf r)) i j h k e)
 
 in-behind : (ds : List (List Row)) (at place i : ℕ) → (nameIn ds place i ≡ [] → ⊥) → at ≤ startIn at ds place i
 unfolding nameIn startIn

@@ -8,11 +8,11 @@ use native.Mathlib.Omega.{arith}
 use lib.Dec.{eqb, ltb}
 use borrow.Author.Tests.{eq-eqb, ne-eqb, eqb-false, le-leb, lt-ltb, le-ltb}
 use Rattle.ground.proofs.Laws.{and-true, and-intro}
-use Rattle.name.specs.Name.{every}
+use Rattle.name.specs.Name.{every, isEmpty}
 use Rattle.row.specs.Rows.{Row}
 use Rattle.row.specs.declared.kind.Kind.{Kind}
 use Rattle.resolve.specs.Kinds.{isSchema, partsFit}
-use Rattle.resolve.specs.Rules.{goodText, goodNumbers, under, kindsAt, noTwo, clash, goodParts, noClash, goodRow, goodRows, climbs, isDeclaration}
+use Rattle.resolve.specs.Rules.{goodText, goodStrings, goodNumbers, under, kindsAt, noTwo, clash, goodParts, noClash, goodRow, goodRows, climbs, isDeclaration}
 use Rattle.kept.proofs.Lists.{All, nil, cons, all-append, every-both, kinds-append}
 
 -- ---- depths: none below e, the first at most m, each at most 1 deeper than the row before it
@@ -63,9 +63,14 @@ kinds-deep {d = d} h (link {r = r} l u c) = rw (ne-eqb (r .depth) d (λ (q : r .
 
 -- ---- good rows
 
+-- a row without a default
+pub plain-strings : (r : Row) → r .default ≡ [] → goodText (r .kind) (r .text) ≡ true → goodStrings r ≡ true
+unfolding goodStrings isEmpty
+plain-strings r d t = rw (d, t)
+
 -- a row with the rows under it
 pub good-row : (r : Row) {m : ℕ} {kids : List Row} → Chain (r .depth + 1) m kids
-    → goodText (r .kind) (r .text) ≡ true
+    → goodStrings r ≡ true
     → goodNumbers r ≡ true
     → partsFit (r .kind) (kindsAt (r .depth + 1) kids) ≡ true
     → noTwo (clash (r .kind) (r .depth)) kids ≡ true

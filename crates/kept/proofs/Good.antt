@@ -16,7 +16,8 @@ use Rattle.row.specs.Rows.{Row}
 use Rattle.row.specs.declared.kind.Kind.{Kind}
 use Rattle.row.specs.declared.kind.Kind.the-variants.{Reference, Field, Symbol, Alias, FieldAlias}
 use Rattle.resolve.specs.Kinds.{isKind, isDefinition, isSchema}
-use Rattle.resolve.specs.Rules.{isFullName, isOwnName, goodText, goodNumbers, goodParts, noClash, goodRow, goodRows, climbs, isDeclaration}
+use Rattle.resolve.specs.Rules.{isFullName, isOwnName, goodText, goodNumbers, goodRow, goodRows, climbs, isDeclaration}
+use Rattle.resolve.proofs.Laws.{strings-text, row-keeps}
 use Rattle.kept.proofs.Lists.{All, nil, cons, all-map}
 
 -- ---- one string
@@ -63,13 +64,12 @@ text-kept k s e =
 -- ---- all rows
 
 good-all : (rs : List Row) → goodRows rs ≡ true → All (λ r. (goodText (r .kind) (r .text) ≡ true) × (goodNumbers r ≡ true)) rs
-unfolding goodRows goodRow
+unfolding goodRows
 good-all [] e = nil
 good-all (r ∷ rs) e =
     let z = and-true (goodRow r rs) (goodRows rs) e in
-    let y = and-true (goodText (r .kind) (r .text) && goodNumbers r && goodParts r rs) (noClash r rs) (z .0) in
-    let x = and-true (goodText (r .kind) (r .text) && goodNumbers r) (goodParts r rs) (y .0) in
-    cons (and-true (goodText (r .kind) (r .text)) (goodNumbers r) (x .0)) (good-all rs (z .1))
+    let k = row-keeps r rs (z .0) in
+    cons (strings-text r (k .0), k .1) (good-all rs (z .1))
 
 -- the first row, a schema at depth 0
 pub record First (rs : List Row) : Type 0 where

@@ -24,17 +24,17 @@ use Rattle.schema.specs.Schema.{rowWith, row, aliasRows, fieldAliasRows, symbol
 use Rattle.resolve.specs.Kinds.{isKind, isPartOf, hasOne, isAliasOf, isDefinition, past, bodyFits, partsFit}
 use Rattle.resolve.specs.Rules.{goodText, goodNumbers, kindsAt, clash, sameSymbol, noTwo}
 use Rattle.kept.proofs.Lists.{All, nil, cons, all-map, Misses, two-nil, two-cons}
-use Rattle.kept.proofs.Forest.{end, Rows, good-row, rows-none, rows-append, rows-tree}
+use Rattle.kept.proofs.Forest.{end, Rows, plain-strings, good-row, rows-none, rows-append, rows-tree}
 use Rattle.kept.proofs.Passed.{must-true, then-fine, read-same, after-read, both-read, each-rows, each-all}
 use Rattle.kept.proofs.Numbers.{plain-numbers}
 use Rattle.kept.proofs.Texts.{simple-own, alias-free, free-text, own-text}
 use Rattle.kept.proofs.Meets.{one-of-head, one-of-tail, one-of-front, one-of-behind, symbol-new}
 
 -- a row with nothing under it
-pub leaf : {n e : ℕ} {test : Kind → Bool} (r : Row) → r .depth ≡ e → test (r .kind) ≡ true → r .position < n → goodText (r .kind) (r .text) ≡ true → goodNumbers r ≡ true
+pub leaf : {n e : ℕ} {test : Kind → Bool} (r : Row) → r .depth ≡ e → test (r .kind) ≡ true → r .position < n → r .default ≡ [] → goodText (r .kind) (r .text) ≡ true → goodNumbers r ≡ true
     → partsFit (r .kind) [] ≡ true → Rows n e test (r ∷ [])
 unfolding kindsAt
-leaf r d k p t n f = rows-tree {below = λ j. true} r d k p (good-row r {m = 0} end t n f (two-nil (clash (r .kind) (r .depth)))) rows-none
+leaf r d k p e t n f = rows-tree {below = λ j. true} r d k p (good-row r {m = 0} end (plain-strings r e t) n f (two-nil (clash (r .kind) (r .depth)))) rows-none
 
 module _ (t : List ℕ) (short : length t ≤ longest) where
   -- ---- aliases
@@ -47,7 +47,7 @@ module _ (t : List ℕ) (short : length t ≤ longest) where
         let f = alias-free t namespace q n (z .0) in
         let w = f .named .within in
         rw (sym (read-same (z .1)))
-        (leaf (rowWith Alias d q (fullAt t namespace q) 0 (noted 0)) refl refl w (free-text Alias refl f) (plain-numbers Alias d q _ (omega arith)) refl)
+        (leaf (rowWith Alias d q (fullAt t namespace q) 0 (noted 0)) refl refl w refl (free-text Alias refl f) (plain-numbers Alias d q _ (omega arith)) refl)
 
     alias-kind : (q : ℕ) (rs : List Row) → aliasRows t namespace d q ≡ read rs → All (λ r. isKind Alias (r .kind) ≡ true) rs
     unfolding aliasRows isKind
@@ -69,7 +69,7 @@ module _ (t : List ℕ) (short : length t ≤ longest) where
         let o = simple-own t q (z .0) in
         let w = o .within in
         rw (sym (read-same (z .1)))
-        (leaf (rowWith FieldAlias d q (stringAt t q) 0 (noted 0)) refl refl w (own-text FieldAlias refl refl refl o) (plain-numbers FieldAlias d q _ (omega arith)) refl)
+        (leaf (rowWith FieldAlias d q (stringAt t q) 0 (noted 0)) refl refl w refl (own-text FieldAlias refl refl refl o) (plain-numbers FieldAlias d q _ (omega arith)) refl)
 
     pub field-aliases-rows : (qs : List ℕ) {rs : List Row} → each (fieldAliasRows t d) qs ≡ read rs → Rows (length t) d (isKind FieldAlias) rs
     field-aliases-rows = each-rows (fieldAliasRows t d) field-alias-rows
@@ -97,7 +97,7 @@ module _ (t : List ℕ) (short : length t ≤ longest) where
   symbol-rows d q e =
       let o = simple-own t q e in
       let w = o .within in
-      leaf (rowWith Symbol (d + 1) q (stringAt t q) 0 (noted 0)) refl refl w (own-text Symbol refl refl refl o) (plain-numbers Symbol (d + 1) q _ (omega arith)) refl
+      leaf (rowWith Symbol (d + 1) q (stringAt t q) 0 (noted 0)) refl refl w refl (own-text Symbol refl refl refl o) (plain-numbers Symbol (d + 1) q _ (omega arith)) refl
 
   pub symbols-apart : (d : ℕ) (taken : List (List ℕ)) (qs : List ℕ) {rs : List Row} → symbolsNew t taken qs ≡ Fine → each (symbolRows t (d + 1)) qs ≡ read rs → Symbols d taken rs
   unfolding symbolsNew each symbolRows

@@ -34,7 +34,7 @@ use Rattle.schema.specs.Schema.{rowWith, row, Around, within, fieldAliasRows, f
 use Rattle.resolve.specs.Kinds.{isKind, isDefinition, isPartOf, partsFit}
 use Rattle.resolve.specs.Rules.{kindsAt, noTwo, takesName, sameSymbol, clash}
 use Rattle.kept.proofs.Lists.{All, nil, cons, all-append, all-map, all-any, kinds-append, Misses, Unmet, unmet-misses, two-nil, two-cons, two-front, two-never}
-use Rattle.kept.proofs.Forest.{Rows, good-row, rows-none, rows-append, rows-weaken, rows-tree, rows-tops}
+use Rattle.kept.proofs.Forest.{Rows, plain-strings, good-row, rows-none, rows-append, rows-weaken, rows-tree, rows-tops}
 use Rattle.kept.proofs.Passed.{must-true, then-fine, after-read, rows-read, both-read, spot-read, size-read, read-same}
 use Rattle.kept.proofs.Numbers.{size-small, note-good, plain-numbers, fixed-numbers}
 use Rattle.kept.proofs.Texts.{Own, simple-own, own-text}
@@ -76,7 +76,7 @@ module _ (t : List ℕ) (short : length t ≤ longest) where
       let fits : partsFit Field (kindsAt (d + 1) (h .front ++ h .types)) ≡ true =
       rw (kinds-append (d + 1) (h .front) (h .types), schema-kinds (h .typed)) (field-fits (kindsAt (d + 1) (h .front)) (h .typed .root .kind) (al .tops) (h .typed .kind)) in
       rows-tree r refl refl w
-      (good-row r (kids .chain) (own-text Field refl refl refl (h .own)) (plain-numbers Field d (h .place) _ (omega arith)) fits (two-never (clash Field d) (λ a b. refl) (h .front ++ h .types)))
+      (good-row r (kids .chain) (plain-strings r refl (own-text Field refl refl refl (h .own))) (plain-numbers Field d (h .place) _ (omega arith)) fits (two-never (clash Field d) (λ a b. refl) (h .front ++ h .types)))
       kids
 
   -- a field in front of fields, and the names that were taken before it

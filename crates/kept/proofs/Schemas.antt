@@ -34,7 +34,7 @@ use Rattle.schema.specs.Schema.{rowWith, row, Around, within, aliasRows, refere
 use Rattle.resolve.specs.Kinds.{isKind, isPrimitive, isDefinition, isNamed, isSchema, isAliasOf, hasOne, isPartOf, past, bodyFits, partsFit}
 use Rattle.resolve.specs.Rules.{goodText, goodNumbers, kindsAt, noTwo, clash}
 use Rattle.kept.proofs.Lists.{All, kinds-append, two-nil, two-never}
-use Rattle.kept.proofs.Forest.{Rows, good-row, rows-none, rows-append, rows-weaken, rows-tree, kinds-deep}
+use Rattle.kept.proofs.Forest.{Rows, plain-strings, good-row, rows-none, rows-append, rows-weaken, rows-tree, kinds-deep}
 use Rattle.kept.proofs.Passed.{after-read, rows-read, both-read, spot-read, read-same}
 use Rattle.kept.proofs.Numbers.{Noted, noted-plain, note-good, numbers-good, plain-numbers}
 use Rattle.kept.proofs.Texts.{reference-named, reference-text, definition-free, own-namespace, free-text, word-within}
@@ -78,7 +78,7 @@ module _ (t : List ℕ) (a : Around) (f : Form) (k : Kind) (d p : ℕ) (s : List
     is = refl;
     depth = refl;
     kind = sc;
-    rows = rows-tree (rowWith k d p s size n) refl sc w (good-row (rowWith k d p s size n) (b .chain) tx nu fi ap) b;
+    rows = rows-tree (rowWith k d p s size n) refl sc w (good-row (rowWith k d p s size n) (b .chain) (plain-strings (rowWith k d p s size n) refl tx) nu fi ap) b;
     below = b;
     new = ne;
     head = he;

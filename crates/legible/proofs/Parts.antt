@@ -15,8 +15,8 @@ use Rattle.row.specs.Kinds.{kindNumber}
 use Rattle.row.specs.declared.kind.Kind.{Kind}
 use Rattle.row.specs.declared.kind.Kind.the-variants.{Union, Record, Enum, Field, Symbol, Alias, FieldAlias}
 use Rattle.resolve.specs.Kinds.{isKind, isPrimitive, isDefinition, isNamed, isSchema, isAliasOf, hasOne, isPartOf, past, bodyFits, partsFit}
-use Rattle.resolve.proofs.Laws.{numbered}
-use Rattle.resolve.specs.Rules.{goodText, goodSize, goodNumbers, under, kindsAt, goodParts, noClash, goodRow, goodRows, climbs, isDeclaration}
+use Rattle.resolve.proofs.Laws.{numbered, strings-text}
+use Rattle.resolve.specs.Rules.{goodText, goodStrings, goodSize, goodNumbers, under, kindsAt, goodParts, noClash, goodRow, goodRows, climbs, isDeclaration}
 use Rattle.canonical.specs.Canonical.{isWritten, startsAt, partsOf}
 
 -- ---- the rows under a row
@@ -168,12 +168,12 @@ pub good-row : (r : Row) (rows : List Row) → goodRows (r ∷ rows) ≡ true �
 unfolding goodRows goodRow goodParts partsOf
 good-row r rows e =
     let z = and-true (goodRow r rows) (goodRows rows) e in
-    let y = and-true (goodText (r .kind) (r .text) && goodNumbers r && goodParts r rows) (noClash r rows) (z .0) in
-    let x = and-true (goodText (r .kind) (r .text) && goodNumbers r) (goodParts r rows) (y .0) in
-    let w = and-true (goodText (r .kind) (r .text)) (goodNumbers r) (x .0) in
+    let y = and-true (goodStrings r && goodNumbers r && goodParts r rows) (noClash r rows) (z .0) in
+    let x = and-true (goodStrings r && goodNumbers r) (goodParts r rows) (y .0) in
+    let w = and-true (goodStrings r) (goodNumbers r) (x .0) in
     let below = under (r .depth) rows in
     record {
-      text = w .0;
+      text = strings-text r (w .0);
       size = numbered r (w .1) .size;
       kinds = written (kindsAt (r .depth + 1) below);
       fit = fit-written (r .kind) (kindsAt (r .depth + 1) below) (x .1);

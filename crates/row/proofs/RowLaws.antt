@@ -16,7 +16,7 @@ use Rattle.row.specs.Kinds.{kindNumber, kindOf}
 use Rattle.ground.specs.Numbers.{lowFirst}
 use Rattle.row.specs.Numbers.{le}
 use Rattle.row.specs.Layout.{rowSize}
-use Rattle.row.specs.Rows.{Row, rowWith, stringsOf, fits, allFit, encodeFront, encodeRow, encodeRows, texts, entryOf, textStart, textOf, defaultOf, stringsLength, rowsOf}
+use Rattle.row.specs.Rows.{Row, withDefault, stringsOf, fits, allFit, encodeFront, encodeRow, encodeRows, texts, entryOf, textStart, textOf, defaultOf, stringsLength, rowsOf}
 use Rattle.row.specs.declared.kind.Kind.{Kind}
 use Rattle.row.specs.declared.kind.Kind.the-variants.{Null, Boolean, Int, Long, Float, Double, Bytes, String, Reference, Array, Map, Union, Record, Enum, Fixed, Field, Symbol, Alias, FieldAlias}
 use Rattle.row.proofs.NumberLaws.{le-one, le-bytes}
@@ -140,7 +140,7 @@ default-back o r x p y e h g =
     rw (a, b, c, k) (part-mid (p ++ r .text) (r .default) y (o + length (r .text)) (length (r .default)) (length-append p (r .text) ∙ omega arith) refl)
 
 pub row-back : (o : ℕ) (r : Row) (x p y : List ℕ) → length p ≡ o → o < 2 ^ 16 → fits r ≡ true
-    → rowWith (entryOf (encodeRow o r ++ x)) (textOf (p ++ (stringsOf r ++ y)) (encodeRow o r ++ x)) (defaultOf (p ++ (stringsOf r ++ y)) (encodeRow o r ++ x)) ≡ r
+    → withDefault (entryOf (encodeRow o r ++ x)) (textOf (p ++ (stringsOf r ++ y)) (encodeRow o r ++ x)) (defaultOf (p ++ (stringsOf r ++ y)) (encodeRow o r ++ x)) ≡ r
 unfolding entryOf encodeRow encodeFront lowFirst part
 row-back o r x p y e h f =
     let g = fits-true r f in

@@ -16,7 +16,7 @@ use Rattle.row.specs.Kinds.{kindNumber, kindOf}
 use Rattle.ground.specs.Numbers.{lowFirst}
 use Rattle.row.specs.Numbers.{le, number}
 use Rattle.row.specs.Layout.{declarationLimit, rowLimit, stringLimit, headerSize, rowSize, rowsStart, rowsSize, stringsStart, layoutLength}
-use Rattle.row.specs.Rows.{Row, rowWith, stringsOf, fits, allFit, encodeFront, encodeRow, encodeRows, texts, entryOf, textOf, textStart, textLength, defaultOf, defaultLength, stringsLength, rowsOf}
+use Rattle.row.specs.Rows.{Row, withDefault, stringsOf, fits, allFit, encodeFront, encodeRow, encodeRows, texts, entryOf, textOf, textStart, textLength, defaultOf, defaultLength, stringsLength, rowsOf}
 use Rattle.row.specs.Sets.{flat, sizes, sum, words, zeros, filled, pack, encode, wordsOf, countIn, sizesIn, rowsFrom, split, decode, isWithin, isEncoding}
 use Rattle.row.specs.Memory.{rowsBefore}
 use Rattle.row.specs.Tidy.{tidyRow, tidyEnd, rowsEnd, spareZero, isTidy}
@@ -91,7 +91,7 @@ number-small m at n h = le-small n (drop at m) (all-drop at m h)
 
 module _ (l st : List ℕ) (o : ℕ) (h : AllBytes l) (long : rowSize ≤ length l) where
   row-canon : kindNumber (kindOf (number l 0 1)) ≡ number l 0 1 → textStart l ≡ o → length (textOf st l) ≡ textLength l → length (defaultOf st l) ≡ defaultLength l
-      → encodeRow o (rowWith (entryOf l) (textOf st l) (defaultOf st l)) ≡ take rowSize l
+      → encodeRow o (withDefault (entryOf l) (textOf st l) (defaultOf st l)) ≡ take rowSize l
   unfolding encodeRow encodeFront entryOf
   row-canon k s n u =
       let f : (at w : ℕ) → at + w ≤ rowSize → lowFirst w (number l at w) ≡ part l at w = λ at w d. number-bytes l h at w (omega arith) in
@@ -159,7 +159,7 @@ rows-canon st zero o l s h n e =
 rows-canon st (suc k) o l s h n e =
     let t = tidy-step k o l e in
     let w : ℕ = stringsLength l in
-    let r : Row = rowWith (entryOf l) (textOf st l) (defaultOf st l) in
+    let r : Row = withDefault (entryOf l) (textOf st l) (defaultOf st l) in
     let l′ : List ℕ = drop rowSize l in
     let text = text-long st l o s (t .start) (t .fit) in
     let default = default-long st l o s (t .start) (t .fit) in
@@ -179,7 +179,7 @@ part-short : (s : List ℕ) (at n : ℕ) → length (part s at n) ≤ n
 unfolding part
 part-short s at n = omega (arith, length-take n (drop at s))
 
-row-fits : (l st : List ℕ) → AllBytes l → fits (rowWith (entryOf l) (textOf st l) (defaultOf st l)) ≡ true
+row-fits : (l st : List ℕ) → AllBytes l → fits (withDefault (entryOf l) (textOf st l) (defaultOf st l)) ≡ true
 unfolding fits entryOf textOf defaultOf
 row-fits l st h =
     let f : (at n : ℕ) → number l at n < 256 ^ n = λ at n. number-small l at n h in
@@ -199,7 +199,7 @@ row-fits l st h =
 rows-fit : (st : List ℕ) (k : ℕ) (l : List ℕ) → AllBytes l → allFit (rowsOf st k l) ≡ true
 unfolding allFit rowsOf
 rows-fit st zero l h = refl
-rows-fit st (suc k) l h = and-intro (fits (rowWith (entryOf l) (textOf st l) (defaultOf st l))) (allFit (rowsOf st k (drop rowSize l))) (row-fits l st h) (rows-fit st k (drop rowSize l) (all-drop rowSize l h))
+rows-fit st (suc k) l h = and-intro (fits (withDefault (entryOf l) (textOf st l) (defaultOf st l))) (allFit (rowsOf st k (drop rowSize l))) (row-fits l st h) (rows-fit st k (drop rowSize l) (all-drop rowSize l h))
 
 found-fit : (m : List ℕ) (t : ℕ) → AllBytes m → allFit (rowsFrom m t 0) ≡ true
 unfolding rowsFrom

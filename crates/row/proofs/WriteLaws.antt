@@ -18,7 +18,7 @@ use Rattle.ground.specs.Bytes.{store}
 use Rattle.ground.proofs.Laws.{and-true, store-then}
 use Rattle.ground.specs.Numbers.{lowFirst}
 use Rattle.row.specs.Layout.{rowLimit, stringLimit, rowSize, rowsStart, stringsStart}
-use Rattle.row.specs.Rows.{Row, rowOf, rowWith, stringsOf, encodeFront, encodeRow, rowsOf}
+use Rattle.row.specs.Rows.{Row, rowOf, withDefault, stringsOf, encodeFront, encodeRow, rowsOf}
 use Rattle.row.specs.Sets.{zeros, rowsFrom}
 use Rattle.row.specs.Memory.{entryAt, textAt, defaultAt, rowAt, most, counted, hasRoom, written, pushed, countedAll, pushedAll, declared}
 use Rattle.row.specs.declared.Entry.{Entry}
@@ -100,11 +100,11 @@ module _ (m : List ℕ) (c : Counts) (r : Row) where
 -- a row of two strings, whose lengths n counts together
 module _ (c : Counts) (e : Entry) (t d : List ℕ) (n : ℕ) (en : n ≡ min (length t + length d) most) where
   r : Row
-  r = rowWith e t d
+  r = withDefault e t d
 
   long : n ≡ min (length (stringsOf r)) most
   unfolding r
-  long = rw (length-strings (rowWith e t d)) en
+  long = rw (length-strings (withDefault e t d)) en
 
   same-room : hasRoom c n ≡ hasRoom c (length (stringsOf r))
   unfolding hasRoom
@@ -114,25 +114,25 @@ module _ (c : Counts) (e : Entry) (t d : List ℕ) (n : ℕ) (en : n ≡ min (le
       | no k ↦ rw (lt-leb (c .«string_bytes» + n) stringLimit (omega arith), lt-leb (c .«string_bytes» + length (stringsOf r)) stringLimit (omega (arith, long)))
       ]
 
-  pub both-counted : (x : Counts) → x ≡ counted c n → x ≡ counted c (length (stringsOf (rowWith e t d)))
+  pub both-counted : (x : Counts) → x ≡ counted c n → x ≡ counted c (length (stringsOf (withDefault e t d)))
   unfolding counted r
   both-counted x h =
-      let k : min (c .«string_bytes» + n) most ≡ min (c .«string_bytes» + length (stringsOf (rowWith e t d))) most = omega (arith, long) in
+      let k : min (c .«string_bytes» + n) most ≡ min (c .«string_bytes» + length (stringsOf (withDefault e t d))) most = omega (arith, long) in
       h ∙ ap (λ (y : ℕ). countsOf (c .declarations) (min (c .rows + 1) most) y) k
 
-  pub both-full : (m : List ℕ) → hasRoom c n ≡ false → m ≡ pushed m c (rowWith e t d)
+  pub both-full : (m : List ℕ) → hasRoom c n ≡ false → m ≡ pushed m c (withDefault e t d)
   unfolding r
-  both-full m h = no-push m c (rowWith e t d) (sym same-room ∙ h)
+  both-full m h = no-push m c (withDefault e t d) (sym same-room ∙ h)
 
   pub both-room : hasRoom c n ≡ true → (c .rows < rowLimit) × (c .«string_bytes» + (length t + length d) ≤ stringLimit)
   unfolding r
   both-room h =
       let k = room-true c (length (stringsOf r)) (sym same-room ∙ h) in
-      (k .0, omega (arith, k .1, length-strings (rowWith e t d)))
+      (k .0, omega (arith, k .1, length-strings (withDefault e t d)))
 
-  pub both-pushed : (m m′ : List ℕ) → hasRoom c n ≡ true → m′ ≡ written m c (rowWith e t d) → m′ ≡ pushed m c (rowWith e t d)
+  pub both-pushed : (m m′ : List ℕ) → hasRoom c n ≡ true → m′ ≡ written m c (withDefault e t d) → m′ ≡ pushed m c (withDefault e t d)
   unfolding r
-  both-pushed m m′ h w = a-push m c (rowWith e t d) (sym same-room ∙ h) m′ w
+  both-pushed m m′ h w = a-push m c (withDefault e t d) (sym same-room ∙ h) m′ w
 
 -- a row of one
 pub one-counted : (c x : Counts) (e : Entry) (t : List ℕ) → x ≡ counted c (length (stringsOf (rowOf e t))) → x ≡ counted c (length t)
@@ -162,7 +162,7 @@ push-start f s n = rw (sub-zero, add-zero)
 
 module _ (f m x : List ℕ) (s n i : ℕ) (c y : Counts) (p : countedAll c (rowsFrom f (n - i) (s + i)) ≡ y) (q : pushedAll m c (rowsFrom f (n - i) (s + i)) ≡ x) where
   pub push-turn : i < n → (e : Entry) (t u : List ℕ) → e ≡ entryAt f (s + i) → t ≡ textAt f (s + i) → u ≡ defaultAt f (s + i)
-      → (c′ : Counts) (m′ : List ℕ) → c′ ≡ counted c (length (stringsOf (rowWith e t u))) → m′ ≡ pushed m c (rowWith e t u)
+      → (c′ : Counts) (m′ : List ℕ) → c′ ≡ counted c (length (stringsOf (withDefault e t u))) → m′ ≡ pushed m c (withDefault e t u)
       → (countedAll c′ (rowsFrom f (n - (i + 1)) (s + (i + 1))) ≡ y) × (pushedAll m′ c′ (rowsFrom f (n - (i + 1)) (s + (i + 1))) ≡ x)
   unfolding countedAll pushedAll
   push-turn l e t u he ht hu c′ m′ hc hm =

@@ -11,7 +11,7 @@ use Rattle.ground.specs.Bytes.{store}
 use Rattle.ground.specs.Numbers.{lowFirst}
 use Rattle.row.specs.Numbers.{number}
 use Rattle.row.specs.Layout.{rowLimit, stringLimit, rowSize, rowsStart, stringsStart}
-use Rattle.row.specs.Rows.{Row, rowWith, stringsOf, encodeRow, texts, entryOf, textStart, textLength, textOf, defaultOf, stringsLength}
+use Rattle.row.specs.Rows.{Row, withDefault, stringsOf, encodeRow, texts, entryOf, textStart, textLength, textOf, defaultOf, stringsLength}
 use Rattle.row.specs.Sets.{flat, sum, countIn, sizesIn}
 use Rattle.row.specs.declared.Entry.{Entry}
 
@@ -42,7 +42,7 @@ abbrev pub behind : ℕ × ℕ → ℕ → ℕ × ℕ
 behind first at = (first .0, at + first .1)
 
 abbrev pub rowAt : List ℕ → ℕ → Row
-rowAt m i = rowWith (entryAt m i) (textAt m i) (defaultAt m i)
+rowAt m i = withDefault (entryAt m i) (textAt m i) (defaultAt m i)
 
 -- how many rows a place has
 unfoldable pub sizeAt : List ℕ → ℕ → ℕ

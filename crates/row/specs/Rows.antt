@@ -26,8 +26,8 @@ pub record Row : Type 0 where
   pub precision : ℕ
   pub scale : ℕ
 
-abbrev pub rowWith : Entry → List ℕ → List ℕ → Row
-rowWith e text default = record {
+abbrev pub withDefault : Entry → List ℕ → List ℕ → Row
+withDefault e text default = record {
   kind = e .kind;
   depth = e .depth;
   position = e .position;
@@ -41,7 +41,7 @@ rowWith e text default = record {
 
 -- a row without a default
 abbrev pub rowOf : Entry → List ℕ → Row
-rowOf e text = rowWith e text []
+rowOf e text = withDefault e text []
 
 -- its strings, one behind the other
 unfoldable pub stringsOf : Row → List ℕ
@@ -119,4 +119,4 @@ stringsLength l = textLength l + defaultLength l
 
 unfoldable pub rowsOf : List ℕ → ℕ → List ℕ → List Row
 rowsOf area zero l = []
-rowsOf area (suc k) l = rowWith (entryOf l) (textOf area l) (defaultOf area l) ∷ rowsOf area k (drop rowSize l)
+rowsOf area (suc k) l = withDefault (entryOf l) (textOf area l) (defaultOf area l) ∷ rowsOf area k (drop rowSize l)

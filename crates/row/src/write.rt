@@ -14,7 +14,7 @@ ghost use Prim.Native.Nat.{_+_, _≤_, _<_, min};
 ghost use lib.ListN.{length};
 ghost use Rattle.ground.specs.Bytes.{store};
 ghost use Rattle.row.specs.Layout.{declarationLimit, rowLimit, stringLimit, layoutLength};
-ghost use Rattle.row.specs.Rows.{rowOf, rowWith, stringsOf, encodeFront, encodeRow};
+ghost use Rattle.row.specs.Rows.{rowOf, withDefault, stringsOf, encodeFront, encodeRow};
 ghost use Rattle.row.specs.Sets.{zeros, rowsFrom};
 ghost use Rattle.row.specs.Memory.{most, counted, hasRoom, written, pushed, countedAll, pushedAll, declared};
 
@@ -31,7 +31,7 @@ pub fn clear(mem: &mut [u8])
 
 // The front of a row whose strings lie from `start` on in the string area.
 fn front(row: Entry, start: u16, text: &[u8], default: &[u8]) -> [u8; 10]
-    ensures { λ r. ⌜ r ≡ encodeFront start (rowWith row (now (text .entry)) (now (default .entry))) ⌝ }
+    ensures { λ r. ⌜ r ≡ encodeFront start (withDefault row (now (text .entry)) (now (default .entry))) ⌝ }
 {
     let kind = row.kind;
     let number = kind.number();
@@ -93,7 +93,7 @@ fn joined(front: [u8; 10], size: [u8; 8], precision: [u8; 8], scale: [u8; 8]) ->
 
 // The bytes of a row whose strings lie from `start` on in the string area.
 fn bytes_of(row: Entry, start: u16, text: &[u8], default: &[u8]) -> [u8; 34]
-    ensures { λ r. ⌜ r ≡ encodeRow start (rowWith row (now (text .entry)) (now (default .entry))) ⌝ }
+    ensures { λ r. ⌜ r ≡ encodeRow start (withDefault row (now (text .entry)) (now (default .entry))) ⌝ }
 {
     let first = front(row, start, text, default);
     let size = eight(row.size);
@@ -105,7 +105,7 @@ fn bytes_of(row: Entry, start: u16, text: &[u8], default: &[u8]) -> [u8; 34]
 // A row at its place in memory, and its strings, which lie from `start` on, apart.
 fn write_row(mem: &mut [u8], at: usize, row: Entry, start: u16, text: &[u8], default: &[u8])
     requires { ⌜ at < 65536 ⌝ }
-    ensures { λ _. ⌜ now (mem .exit) ≡ store (now (mem .entry)) at (encodeRow start (rowWith row (now (text .entry)) (now (default .entry)))) ⌝ }
+    ensures { λ _. ⌜ now (mem .exit) ≡ store (now (mem .entry)) at (encodeRow start (withDefault row (now (text .entry)) (now (default .entry)))) ⌝ }
 {
     let bytes = bytes_of(row, start, text, default);
     copy(mem, at, &bytes);
@@ -147,7 +147,7 @@ fn has_room(counts: Counts, n: usize) -> bool
 // The row behind those that are counted, and its strings behind theirs.
 fn write(mem: &mut [u8], counts: Counts, row: Entry, text: &[u8], default: &[u8])
     requires { ⌜ (counts .rows < rowLimit) × (counts .«string_bytes» + (length (now text) + length (now default)) ≤ stringLimit) ⌝ }
-    ensures { λ _. ⌜ now (mem .exit) ≡ written (now (mem .entry)) counts (rowWith row (now (text .entry)) (now (default .entry))) ⌝ }
+    ensures { λ _. ⌜ now (mem .exit) ≡ written (now (mem .entry)) counts (withDefault row (now (text .entry)) (now (default .entry))) ⌝ }
 {
     let rows = counts.rows;
     let used = counts.string_bytes;
@@ -171,8 +171,8 @@ pub fn push_both(
     text: &[u8],
     default: &[u8],
 ) -> Counts
-    ensures { λ r. ⌜ (r ≡ counted counts (length (stringsOf (rowWith row (now (text .entry)) (now (default .entry))))))
-        × (now (mem .exit) ≡ pushed (now (mem .entry)) counts (rowWith row (now (text .entry)) (now (default .entry)))) ⌝ }
+    ensures { λ r. ⌜ (r ≡ counted counts (length (stringsOf (withDefault row (now (text .entry)) (now (default .entry))))))
+        × (now (mem .exit) ≡ pushed (now (mem .entry)) counts (withDefault row (now (text .entry)) (now (default .entry)))) ⌝ }
 {
     let n = more(text.len(), default.len());
     let next = count(counts, n);

@@ -3,12 +3,14 @@
 use mathlib.Core.Path.{_≡_, refl, sym, ap, _∙_, subst}
 use mathlib.Core.List.{List, [], _∷_, append-nil, append-assoc}
 use Prim.Native.Nat.{ℕ, _-_, _≤_}
+use native.Mathlib.Nat.{add-zero}
 use native.Mathlib.Omega.{arith}
 use lib.ListN.{length, take, drop}
 use Rattle.answer.specs.declared.counts.Counts.{Counts}
 use Rattle.answer.specs.declared.refusal.Fault.{Fault}
-use Rattle.row.specs.Rows.{Row}
+use Rattle.row.specs.Rows.{Row, stringsOf}
 use Rattle.row.specs.Memory.{counted, pushed, countedAll, pushedAll}
+use Rattle.row.proofs.RowLaws.{length-strings}
 use Rattle.row.proofs.Laws.{counted-append, pushed-append}
 use Rattle.form.specs.declared.check.Check.{Check}
 use Rattle.form.specs.declared.check.Check.the-variants as check
@@ -28,9 +30,13 @@ pub did-none : (m : List ℕ) (c : Counts) → Did m c m (Read c) (read [])
 unfolding countedAll pushedAll
 did-none m c = record { did = (refl, refl) }
 
-pub did-row : {m m′ : List ℕ} {c c′ : Counts} (w : Row) → c′ ≡ counted c (length (w .text)) → m′ ≡ pushed m c w → Did m c m′ (Read c′) (read (w ∷ []))
+-- a row without a default is counted by its own string
+own-string : (w : Row) → w .default ≡ [] → length (w .text) ≡ length (stringsOf w)
+own-string w d = sym (length-strings w ∙ rw d (add-zero (length (w .text))))
+
+pub did-row : {m m′ : List ℕ} {c c′ : Counts} (w : Row) → w .default ≡ [] → c′ ≡ counted c (length (w .text)) → m′ ≡ pushed m c w → Did m c m′ (Read c′) (read (w ∷ []))
 unfolding countedAll pushedAll
-did-row w e h = record { did = (ap Read e, h) }
+did-row {c = c} w d e h = record { did = (ap Read (e ∙ ap (counted c) (own-string w d)), h) }
 
 -- ---- the definition's own equations
 
@@ -45,12 +51,12 @@ did-rows m m″ c r rows (read more) d =
     record { did = (d .did .0 ∙ ap Read (sym (counted-append c rows more)), d .did .1 ∙ sym (pushed-append m c rows more)) }
 
 -- a row was pushed, and then
-pub did-after : {m m′ m″ : List ℕ} {c c′ : Counts} {r : Walked} (w : Row) (o : Out) → c′ ≡ counted c (length (w .text)) → m′ ≡ pushed m c w
+pub did-after : {m m′ m″ : List ℕ} {c c′ : Counts} {r : Walked} (w : Row) (o : Out) → w .default ≡ [] → c′ ≡ counted c (length (w .text)) → m′ ≡ pushed m c w
     → Did m′ c′ m″ r o → Did m c m″ r (rowsThen (w ∷ []) o)
 unfolding countedAll pushedAll
-did-after {m} {m′} {m″} {c} {c′} {r} w o e h d =
+did-after {m} {m′} {m″} {c} {c′} {r} w o n e h d =
     did-rows m m″ c r (w ∷ []) o
-    (subst (λ (x : List ℕ). Did x (counted c (length (w .text))) m″ r o) h (subst (λ (x : Counts). Did m′ x m″ r o) e d))
+    (subst (λ (x : List ℕ). Did x (counted c (length (stringsOf w))) m″ r o) h (subst (λ (x : Counts). Did m′ x m″ r o) (e ∙ ap (counted c) (own-string w n)) d))
 
 -- ---- one part, and then the next
 

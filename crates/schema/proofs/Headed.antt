@@ -54,7 +54,7 @@ module _ (t namespace : List ℕ) (standing : Standing) (e : Entry) (full : List
   unfolding headed
   headed-new {m″} {own} {c″} {r″} s h i j k l =
       did-fine (unionCheck t namespace standing (called full)) _ (sym g ∙ h)
-      (did-after (rowOf e full) _ (i .0) (i .1)
+      (did-after (rowOf e full) _ refl (i .0) (i .1)
       (subst (λ (x : List ℕ). Did m″ c″ m′ r″ (each (aliasRows t x (e .depth + 1)) (aliasesIn t aliases))) k
       (subst (λ (x : List ℕ). Did m″ c″ m′ r″ (each (aliasRows t own (e .depth + 1)) x)) j l)))
 

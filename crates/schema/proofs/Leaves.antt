@@ -46,7 +46,7 @@ use Rattle.schema.proofs.Did.{did-bad, did-none, did-row, did-after, di
 -- a row whose string is known by an equation
 pub did-put : {m m′ : List ℕ} {c c′ : Counts} (kind : Kind) (d q : ℕ) {s x : List ℕ} → s ≡ x → c′ ≡ counted c (length s) → m′ ≡ pushed m c (rowWith kind d q s 0 (noted 0))
     → Did m c m′ (Read c′) (read (row kind d q x))
-did-put {m} {m′} {c} {c′} kind d q {s} e g h = subst (λ (y : List ℕ). Did m c m′ (Read c′) (read (row kind d q y))) e (did-row (rowWith kind d q s 0 (noted 0)) g h)
+did-put {m} {m′} {c} {c′} kind d q {s} e g h = subst (λ (y : List ℕ). Did m c m′ (Read c′) (read (row kind d q y))) e (did-row (rowWith kind d q s 0 (noted 0)) refl g h)
 
 pub put-row : (m : List ℕ) {m′ : List ℕ} (c : Counts) (kind : Kind) (d q : ℕ) (s : List ℕ) (size : ℕ) (n : Note) {e : Entry} → e ≡ entry kind d q size n → m′ ≡ pushed m c (rowOf e s)
     → m′ ≡ pushed m c (rowWith kind d q s size n)
@@ -128,7 +128,7 @@ module _ (t namespace : List ℕ) (standing : Standing) (d : ℕ) (kind : Kind) 
   unfolding primitiveWith
   primitive-new {c′} {n} g f h i =
       did-fine (unionCheck t namespace standing (unnamed kind)) _ (sym (e namespace) ∙ g)
-      (subst (λ (x : Note). Did m c m′ (Read c′) (read (rowWith kind d q [] 0 x ∷ []))) f (did-row (rowWith kind d q [] 0 n) h i))
+      (subst (λ (x : Note). Did m c m′ (Read c′) (read (rowWith kind d q [] 0 x ∷ []))) f (did-row (rowWith kind d q [] 0 n) refl h i))
 
 -- ---- words
 
@@ -162,7 +162,7 @@ module _ (t : List ℕ) (d at : ℕ) (o : Members) {m m′ : List ℕ} {c : Coun
     unfolding fieldHead
     field-fine {m″} {c″} {r″} s″ i j k l =
         rw (← e, g) (did-fine (simpleCheck t q) _ (sym h ∙ i)
-        (did-after (rowWith Field d q (stringAt t q) 0 (noted 0)) _ (j .0) (j .1)
+        (did-after (rowWith Field d q (stringAt t q) 0 (noted 0)) _ refl (j .0) (j .1)
         (subst (λ (x : List ℕ). Did m″ c″ m′ r″ (each (fieldAliasRows t (d + 1)) x)) k l)))
 
 module _ (t : List ℕ) (array : ℕ) {r : Check} (e : r ≡ fieldNamesCheck t [] (fieldsIn t array)) (c : Counts) where

@@ -136,7 +136,7 @@ module _ (schema : Around → ℕ → ℕ → Out) (t namespace : List ℕ) (sta
   unfolding partRows
   part-one g h i j =
       did-fine (unionCheck t namespace standing (unnamed kind)) _ (sym (e namespace) ∙ g)
-      (rw h (did-after (rowWith kind d p [] 0 (noted 0)) _ (i .0) (i .1) j))
+      (rw h (did-after (rowWith kind d p [] 0 (noted 0)) _ refl (i .0) (i .1) j))
 
 -- ---- unions
 
@@ -155,7 +155,7 @@ module _ (schema : Around → ℕ → ℕ → Out) (t namespace : List ℕ) (sta
   unfolding unionRows
   union-rows {m″} {c″} {r″} g i j k =
       did-fine (unionCheck t namespace standing (unnamed Union)) _ (sym (e namespace) ∙ g)
-      (did-after (rowWith Union d p [] 0 (noted 0)) _ (i .0) (i .1)
+      (did-after (rowWith Union d p [] 0 (noted 0)) _ refl (i .0) (i .1)
       (subst (λ (l : List ℕ). Did m″ c″ m′ r″ (each (member schema namespace d p) l)) (left-start t p j) k))
 
 -- ---- records

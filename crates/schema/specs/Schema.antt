@@ -45,6 +45,7 @@ rowWith kind depth position text size n = record {
   depth = depth;
   position = position;
   text = text;
+  default = [];
   size = size;
   note = n .note;
   precision = n .precision;

@@ -14,9 +14,9 @@ use Rattle.answer.specs.declared.refusal.Why.the-variants.{NotWellFormed, NoSuc
 use Rattle.answer.proofs.Laws.{first, refusal-one, never-both}
 use Rattle.ground.specs.Bytes.{part}
 use Rattle.row.specs.Layout.{declarationLimit, rowLimit, stringLimit, stringsStart, layoutLength}
-use Rattle.row.specs.Rows.{Row, texts, textOf}
+use Rattle.row.specs.Rows.{Row, stringsOf, texts, textOf}
 use Rattle.row.specs.Sets.{flat, decode, countIn, rowsFrom}
-use Rattle.row.specs.Memory.{entryAt, textAt, textPlace, behind, sizeAt, rowsBefore}
+use Rattle.row.specs.Memory.{entryAt, textAt, rowAt, textPlace, behind, sizeAt, rowsBefore}
 use Rattle.row.proofs.RowLaws.{texts-append}
 use Rattle.row.proofs.SetLaws.{flat-append}
 use Rattle.row.proofs.Laws.{place-encode}
@@ -90,7 +90,7 @@ start-memory m zero s i at h = absurd (omega arith)
 start-memory m (suc n) s zero at h = rw (rows-cons m n s, add-zero, add-zero)
 start-memory m (suc n) s (suc i) at h =
     let e : s + 1 + i ≡ s + suc i = omega arith in
-    let x : List ℕ = textAt m s in
+    let x : List ℕ = stringsOf (rowAt m s) in
     let r : List Row = take i (rowsFrom m n (s + 1)) in
     let k : at + length x + length (texts r) ≡ at + length (x ++ texts r) = omega (arith, length-append x (texts r)) in
     rw (rows-cons m n s) (start-memory m n (s + 1) i (at + length x) (omega arith) ∙ rw (e, k))

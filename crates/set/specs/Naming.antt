@@ -8,7 +8,7 @@ use Rattle.answer.specs.declared.numbers.Numbers.{Numbers}
 use Rattle.answer.specs.Answers.{accepted, refused, ofRefusal}
 use Rattle.name.specs.Name.{isEmpty}
 use Rattle.row.specs.Layout.{stringsStart}
-use Rattle.row.specs.Rows.{Row, texts}
+use Rattle.row.specs.Rows.{Row, stringsOf, texts}
 use Rattle.row.specs.Sets.{decode}
 use Rattle.row.specs.declared.kind.Kind.{Kind}
 use Rattle.row.specs.declared.kind.Kind.the-variants.{Alias}
@@ -36,14 +36,14 @@ nameIn (d ∷ ds) (suc place) i = nameIn ds place i
 unfoldable pub fullNameIn : List ℕ → ℕ → ℕ → List ℕ
 fullNameIn m place i = cond (wellFormed m) (nameIn (decode m) place i) []
 
--- ---- where it lies in memory: each string stands behind the strings of all rows before it, the first at the start of the string area. Equal strings of
+-- ---- where it lies in memory: a row's strings stand behind the strings of all rows before it, the first at the start of the string area. Equal strings of
 -- two rows stand at two places
 
 -- where the full name of row i begins, if the strings of the declaration begin at a place; 0 where there is none
 unfoldable pub startAmong : ℕ → List Row → ℕ → ℕ
 startAmong at [] i = 0
 startAmong at (r ∷ rows) zero = cond (hasFullName (r .kind)) at 0
-startAmong at (r ∷ rows) (suc i) = startAmong (at + length (r .text)) rows i
+startAmong at (r ∷ rows) (suc i) = startAmong (at + length (stringsOf r)) rows i
 
 unfoldable pub startIn : ℕ → List (List Row) → ℕ → ℕ → ℕ
 startIn at [] place i = 0
