@@ -6,8 +6,8 @@ NUMBER = dict(null=1, boolean=2, int=3, long=4, float=5, double=6, bytes=7, stri
               union=26, record=32, enum=33, fixed=34, field=40, symbol=41, alias=48, field_alias=49)
 
 
-def row(kind, depth, position, string=b"", size=0, note=0, precision=0, scale=0):
-    return kind, depth, position, string, size, note, precision, scale
+def row(kind, depth, position, string=b"", size=0, note=0, precision=0, scale=0, default=b""):
+    return kind, depth, position, string, size, note, precision, scale, default
 
 
 SET = [
@@ -17,7 +17,7 @@ SET = [
         row("field", 1, 300, b"x"),
         row("field_alias", 2, 310, b"y"),
         row("int", 2, 320),
-        row("field", 1, 400, b"u"),
+        row("field", 1, 400, b"u", size=773, default=b"[ null ]"),
         row("union", 2, 410),
         row("null", 3, 411),
         row("boolean", 3, 418),
@@ -42,9 +42,9 @@ SET = [
 def memory(declarations):
     header = struct.pack("<H", len(declarations)) + b"".join(struct.pack("<H", len(d)) for d in declarations)
     rows, strings = b"", b""
-    for kind, depth, position, string, size, note, precision, scale in (r for d in declarations for r in d):
-        rows += struct.pack("<BBHHHHQQQ", NUMBER[kind], note, depth, position, len(string), len(strings), size, precision, scale)
-        strings += string
+    for kind, depth, position, string, size, note, precision, scale, default in (r for d in declarations for r in d):
+        rows += struct.pack("<BBHHBBHQQQ", NUMBER[kind], note, depth, position, len(string), len(default), len(strings), size, precision, scale)
+        strings += string + default
     return header.ljust(66, b"\0") + rows.ljust(34 * 1024, b"\0") + strings.ljust(16384, b"\0")
 
 
@@ -61,11 +61,12 @@ def read(m):
     for n in sizes:
         declarations.append([])
         for _ in range(n):
-            kind, note, depth, position, length, start, size, precision, scale = struct.unpack_from("<BBHHHHQQQ", m, at)
-            if kind not in names or start + length > 16384:
+            kind, note, depth, position, length, more, start, size, precision, scale = struct.unpack_from("<BBHHBBHQQQ", m, at)
+            if kind not in names or start + length + more > 16384:
                 return None
-            string = m[34882 + start:34882 + start + length]
-            declarations[-1].append(row(names[kind], depth, position, string, size, note, precision, scale))
+            end = 34882 + start + length
+            string, default = m[34882 + start:end], m[end:end + more]
+            declarations[-1].append(row(names[kind], depth, position, string, size, note, precision, scale, default))
             at += 34
     return declarations
 
@@ -75,7 +76,7 @@ def is_encoding(m):
     return declarations is not None and memory(declarations) == m
 
 
-POKES = [(0, 3), (2, 17), (65, 128), (66, 9), (72, 4), (74, 1), (780, 1), (34881, 1), (51265, 255), (66, 40), (69, 5), (34882, 255)]
+POKES = [(0, 3), (2, 17), (65, 128), (66, 9), (72, 4), (74, 1), (73, 1), (243, 7), (242, 2), (780, 1), (34881, 1), (51265, 255), (66, 40), (69, 5), (34882, 255), (34900, 255)]
 
 
 def main():

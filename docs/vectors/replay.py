@@ -83,7 +83,7 @@ def encoded(declarations):
     header = struct.pack("<H", len(declarations)) + b"".join(struct.pack("<H", len(d)) for d in declarations)
     rows, strings = b"", b""
     for r in (r for d in declarations for r in d):
-        rows += struct.pack("<BBHHHHQQQ", NUMBERS[r.kind], r.note, r.depth, r.position, len(r.string), len(strings), r.size, r.precision, r.scale)
+        rows += struct.pack("<BBHHBBHQQQ", NUMBERS[r.kind], r.note, r.depth, r.position, len(r.string), 0, len(strings), r.size, r.precision, r.scale)
         strings += r.string
     return header.ljust(66, b"\0") + rows.ljust(34816, b"\0") + strings.ljust(16384, b"\0")
 
@@ -95,7 +95,7 @@ def decoded(memory):
     for count in counts[1:1 + counts[0]]:
         rows = []
         for _ in range(count):
-            kind, note, depth, position, length, start, size, precision, scale = struct.unpack_from("<BBHHHHQQQ", memory, 66 + 34 * i)
+            kind, note, depth, position, length, _, start, size, precision, scale = struct.unpack_from("<BBHHBBHQQQ", memory, 66 + 34 * i)
             rows.append(Row(KINDS[kind], depth, position, bytes(memory[34882 + start:34882 + start + length]), size, note, precision, scale))
             i += 1
         out.append(rows)

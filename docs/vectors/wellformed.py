@@ -53,9 +53,10 @@ def declarations(mem):
     for k in range(n):
         rows = []
         for _ in range(counts[k]):
-            kind, note, depth, position, length, start, size, precision, scale = struct.unpack_from("<BBHHHHQQQ", mem, ROWS + ROW * i)
+            kind, note, depth, position, length, default, start, size, precision, scale = struct.unpack_from("<BBHHBBHQQQ", mem, ROWS + ROW * i)
             need(kind in KINDS)
             need(start == end)
+            need(default == 0)
             end += length
             need(end <= 16384)
             text = bytes(mem[STRINGS + start:STRINGS + end])
@@ -179,6 +180,7 @@ def encode(ds):
         if k < 32:
             struct.pack_into("<H", mem, 2 + 2 * k, len(rows))
         for kind, depth, text, position, size, note, precision, scale in rows:
+            # a length above 255, which no row has, runs into the byte behind it
             struct.pack_into("<BBHHHHQQQ", mem, ROWS + ROW * i, NUMBERS[kind], note, depth, position, len(text), end, size, precision, scale)
             mem[STRINGS + end:STRINGS + end + len(text)] = text
             i, end = i + 1, end + len(text)

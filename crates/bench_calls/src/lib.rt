@@ -11,7 +11,7 @@ ghost use Rattle.canonical.specs.Calls.{writtenAt, numbersOfWritten, lengthOf, 
 ghost use Rattle.ground.specs.Bytes.{same};
 ghost use Rattle.json.specs.Json.{scanned};
 ghost use Rattle.rabin.specs.Rabin.{rabinOf};
-ghost use Rattle.resolve.specs.WellFormed.{wellFormed};
+ghost use Rattle.formed.specs.WellFormed.{wellFormed};
 ghost use Rattle.schema.specs.Schema.{declared};
 ghost use Rattle.set.specs.Calls.{answerOf, memoryOf, put};
 
@@ -55,7 +55,7 @@ pub extern "C" fn bench_declare(text: &[u8], draft: &mut [u8]) -> usize
 pub extern "C" fn bench_well_formed(memory: &[u8]) -> bool
     ensures { λ r. ⌜ r ≡ wellFormed (now (memory .entry)) ⌝ }
 {
-    resolve::well_formed(memory)
+    formed::well_formed(memory)
 }
 
 fn rows_in(a: Answer) -> usize

@@ -27,8 +27,9 @@ use Rattle.row.proofs.RowLaws.{texts-append}
 use Rattle.row.proofs.SetLaws.{flat-append}
 use Rattle.row.proofs.Laws.{length-encode, count-encode, before-encode, size-encode, declaration-encode}
 use Rattle.resolve.specs.Rules.{isDeclaration}
-use Rattle.resolve.specs.WellFormed.{Good, wellFormed}
-use Rattle.resolve.proofs.Laws.{exact, good-within, every-append}
+use Rattle.formed.specs.WellFormed.{Good, wellFormed}
+use Rattle.resolve.proofs.Laws.{every-append}
+use Rattle.formed.proofs.Laws.{exact, good-within}
 use Rattle.canonical.specs.Canonical.{textOf, canonicalOf}
 use Rattle.canonical.specs.Calls.{Found, found, refused, refusal, rowsAt, textAt, writtenAt, numbersOfWritten, lengthOf, bufferAfter, numbersOfPrint, printOf}
 use Rattle.canonical.specs.declared.answers.Written.{Written}

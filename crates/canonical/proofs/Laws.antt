@@ -16,7 +16,7 @@ use Rattle.row.specs.declared.kind.Kind.{Kind}
 use Rattle.row.specs.declared.kind.Kind.the-variants.{Null, Boolean, Int, Long, Float, Double, Bytes, String, Reference, Array, Map, Union, Record, Enum, Fixed, Field, Symbol, Alias, FieldAlias}
 use Rattle.resolve.specs.Kinds.{isKind, isSchema}
 use Rattle.resolve.specs.Rules.{climbs, isDeclaration}
-use Rattle.resolve.specs.WellFormed.{wellFormed}
+use Rattle.formed.specs.WellFormed.{wellFormed}
 use Rattle.canonical.specs.Pieces.{opening, closing}
 use Rattle.canonical.specs.Canonical.{isWritten, partsOf, listed, textOf, canonicalOf}
 use Rattle.canonical.specs.Calls.{found, refused, refusal, rowsAt, textAt, writtenAt, bufferAfter}

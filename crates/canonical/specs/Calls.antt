@@ -15,7 +15,7 @@ use Rattle.ground.specs.Bytes.{store}
 use Rattle.rabin.specs.Rabin.{rabinOf}
 use Rattle.row.specs.Rows.{Row}
 use Rattle.row.specs.Sets.{decode}
-use Rattle.resolve.specs.WellFormed.{wellFormed}
+use Rattle.formed.specs.WellFormed.{wellFormed}
 use Rattle.canonical.specs.Canonical.{canonicalOf}
 use Rattle.canonical.specs.declared.answers.Written.{Written}
 use Rattle.canonical.specs.declared.answers.Written.the-variants as text

@@ -17,8 +17,8 @@ use Rattle.row.specs.Rows.{Row, texts}
 use Rattle.row.specs.Sets.{flat, decode}
 use Rattle.row.specs.Memory.{behind, setCounts}
 use Rattle.row.specs.declared.kind.Kind.the-variants.{Fixed}
-use Rattle.resolve.specs.WellFormed.{wellFormed}
-use Rattle.resolve.proofs.Laws.{exact}
+use Rattle.formed.specs.WellFormed.{wellFormed}
+use Rattle.formed.proofs.Laws.{exact}
 use Rattle.set.specs.Lists.{Result}
 use Rattle.set.specs.Calls.{answerOf, memoryOf, opened, put}
 use Rattle.set.specs.Naming.{hasFullName, fullNameIn, fullNameStart, numbersOfNaming, namingOf}

@@ -9,7 +9,7 @@ use lib.ListN.{length, take, drop, length-append, length-take, length-drop, take
 use borrow.Author.Tests.{le-ltb}
 use Rattle.row.specs.Layout.{declarationLimit}
 use Rattle.row.specs.Rows.{Row}
-use Rattle.resolve.specs.WellFormed.{Good}
+use Rattle.formed.specs.WellFormed.{Good}
 use Rattle.schema.specs.Out.{Out, refused, read}
 use Rattle.schema.specs.Schema.{declared}
 use Rattle.set.specs.Lists.{Result, becomes, next, onRows, append, appendAll, putIn}

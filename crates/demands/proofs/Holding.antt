@@ -21,8 +21,8 @@ use Rattle.row.specs.Rows.{Row, texts}
 use Rattle.row.specs.Sets.{flat, zeros, encode, decode}
 use Rattle.row.specs.Memory.{setCounts}
 use Rattle.row.proofs.Laws.{decode-encode}
-use Rattle.resolve.specs.WellFormed.{Good, wellFormed}
-use Rattle.resolve.proofs.Laws.{exact, encode-good, good-within, none-good}
+use Rattle.formed.specs.WellFormed.{Good, wellFormed}
+use Rattle.formed.proofs.Laws.{exact, encode-good, good-within, none-good}
 use Rattle.set.specs.Lists.{Result, becomes, refuses, refuse, next, putIn}
 use Rattle.set.specs.Calls.{answerOf, memoryOf, opened, put}
 use Rattle.set.proofs.Laws.{put-formed}

@@ -10,8 +10,8 @@ use Rattle.row.specs.Rows.{Row}
 use Rattle.row.specs.Sets.{decode}
 use Rattle.row.specs.Memory.{setCounts}
 use Rattle.row.proofs.Laws.{decode-encode}
-use Rattle.resolve.specs.WellFormed.{wellFormed}
-use Rattle.resolve.proofs.Laws.{exact, good-within}
+use Rattle.formed.specs.WellFormed.{wellFormed}
+use Rattle.formed.proofs.Laws.{exact, good-within}
 use Rattle.set.specs.Lists.{becomes, putIn}
 use Rattle.set.specs.Calls.{answerOf, memoryOf, put}
 use Rattle.set.proofs.Laws.{put-formed}

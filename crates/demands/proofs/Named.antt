@@ -21,7 +21,7 @@ use Rattle.row.specs.declared.kind.Kind.{Kind}
 use Rattle.row.specs.declared.kind.Kind.the-variants.{Reference, Field, Symbol, Alias, FieldAlias}
 use Rattle.resolve.specs.Kinds.{isKind, isDefinition, isNamed}
 use Rattle.resolve.specs.Rules.{isFullName, isOwnName, goodText, goodRow, goodRows, isDeclaration}
-use Rattle.resolve.specs.WellFormed.{wellFormed}
+use Rattle.formed.specs.WellFormed.{wellFormed}
 use Rattle.resolve.proofs.Laws.{strings-text, row-keeps}
 use Rattle.kept.proofs.Good.{declaration-first}
 use Rattle.set.specs.Naming.{hasFullName, nameAmong, nameIn, fullNameIn, startAmong, startIn, fullNameStart, namingOf}

@@ -19,8 +19,8 @@ use Rattle.ground.proofs.Laws.{never, and-true}
 use Rattle.row.specs.Layout.{declarationLimit, rowLimit, stringLimit}
 use Rattle.row.specs.Rows.{Row, texts}
 use Rattle.row.specs.Sets.{flat, decode}
-use Rattle.resolve.specs.WellFormed.{wellFormed}
-use Rattle.resolve.proofs.Laws.{exact}
+use Rattle.formed.specs.WellFormed.{wellFormed}
+use Rattle.formed.proofs.Laws.{exact}
 use Rattle.row.specs.declared.kind.Kind.the-variants.{Reference}
 use Rattle.resolve.specs.Kinds.{isKind, isDefinition}
 use Rattle.resolve.specs.Resolve.{isDefined, faulty, faultOf, orElse, faultIn}

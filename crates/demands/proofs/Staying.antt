@@ -20,8 +20,8 @@ use Rattle.row.specs.Layout.{declarationLimit}
 use Rattle.row.specs.Rows.{Row}
 use Rattle.row.specs.Sets.{encode, decode, Within}
 use Rattle.row.proofs.Laws.{same-sizes, same-rows, same-texts}
-use Rattle.resolve.specs.WellFormed.{Good, wellFormed}
-use Rattle.resolve.proofs.Laws.{exact, good-within}
+use Rattle.formed.specs.WellFormed.{Good, wellFormed}
+use Rattle.formed.proofs.Laws.{exact, good-within}
 use Rattle.schema.specs.Out.{Out, refused, read}
 use Rattle.schema.specs.Schema.{declared}
 use Rattle.set.specs.Lists.{Result, becomes, refuses, refuse, next, onRows, append, appendAll, putIn}

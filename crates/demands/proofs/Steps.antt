@@ -24,10 +24,10 @@ use Rattle.row.specs.Rows.{Row, texts}
 use Rattle.row.specs.Sets.{flat}
 use Rattle.resolve.specs.Rules.{isDeclaration}
 use Rattle.resolve.specs.Resolve.{faultIn}
-use Rattle.resolve.specs.WellFormed.{Good}
+use Rattle.formed.specs.WellFormed.{Good}
 use Rattle.resolve.specs.declared.Resolution.{Resolution}
 use Rattle.resolve.specs.declared.Resolution.the-variants.{Resolved, Faulty}
-use Rattle.resolve.proofs.Laws.{cut-good, more-good}
+use Rattle.formed.proofs.Laws.{cut-good, more-good}
 use Rattle.schema.specs.Out.{Out, refused, read}
 use Rattle.schema.specs.Schema.{rowsOf, onScan, declared}
 use Rattle.kept.proofs.Kept.{kept}

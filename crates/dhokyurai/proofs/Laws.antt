@@ -8,7 +8,7 @@ use Rattle.answer.specs.Answers.{accepted, refused}
 use Rattle.ground.specs.Bytes.{store}
 use Rattle.name.specs.Name.{isEmpty}
 use Rattle.row.specs.Sets.{decode}
-use Rattle.resolve.specs.WellFormed.{wellFormed}
+use Rattle.formed.specs.WellFormed.{wellFormed}
 use Rattle.set.specs.Naming.{nameIn, fullNameIn, namingOf}
 
 -- a full name that is there is told by its length

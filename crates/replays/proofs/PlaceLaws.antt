@@ -9,8 +9,8 @@ use lib.ListN.{length}
 use Rattle.row.specs.Layout.{declarationLimit, layoutLength}
 use Rattle.row.specs.Sets.{countIn, decode, encode, Within}
 use Rattle.row.proofs.Laws.{length-encode, count-encode}
-use Rattle.resolve.specs.WellFormed.{wellFormed}
-use Rattle.resolve.proofs.Laws.{exact, good-within}
+use Rattle.formed.specs.WellFormed.{wellFormed}
+use Rattle.formed.proofs.Laws.{exact, good-within}
 
 module _ (m : List ℕ) (w : wellFormed m ≡ true) where
   is : m ≡ encode (decode m)

@@ -13,7 +13,7 @@ use canonical::Written;
 use commands::Call;
 use json::Scan;
 use rabin::Rabin;
-use resolve::well_formed;
+use formed::well_formed;
 use row::read::declarations;
 use row::read::rows_before;
 use row::read::rows_of;

@@ -1,32 +1,23 @@
 -- What a set cites: well-formed memory is exactly the encoding of a good set, and how good sets grow and are cut.
 -- Assumes nothing.
-use mathlib.Core.Path.{_≡_, refl, sym, ap, _∙_}
+use mathlib.Core.Path.{_≡_, refl}
 use mathlib.Core.Bool.{Bool, true, false, not, cond, _&&_, _||_}
-use mathlib.Core.List.{List, [], _∷_, _++_, append-nil}
+use mathlib.Core.List.{List, [], _∷_, _++_}
 use Prim.Native.Nat.{ℕ, _+_, _^_, _<_, _≤_}
 use native.Mathlib.Omega.{arith}
 use lib.Dec.{eqb, leb, ltb, lit≤}
-use lib.ListN.{length, take, drop, length-append, take-append-drop}
+use lib.ListN.{length}
 use borrow.Author.Tests.{lt-ltb, ltb-true, leb-true, eqb-true}
 use Rattle.ground.proofs.Laws.{never, and-true, and-intro}
 use Rattle.name.specs.Name.{every, isEmpty, isSimple, isDotted, isReserved}
 use Rattle.name.specs.Full.{isShort, keptLimit}
 use Rattle.json.specs.Json.{longest}
-use Rattle.row.specs.Layout.{declarationLimit, rowLimit, stringLimit, layoutLength}
-use Rattle.row.specs.Rows.{Row, fits, allFit, texts}
-use Rattle.row.specs.Sets.{flat, zeros, encode, decode, Within, isEncoding}
+use Rattle.row.specs.Layout.{rowLimit}
+use Rattle.row.specs.Rows.{Row, fits, allFit}
 use Rattle.row.specs.declared.kind.Kind.{Kind}
 use Rattle.row.specs.declared.kind.Kind.the-variants.{Bytes, Reference, Fixed, Field, Symbol, Alias, FieldAlias}
-use Rattle.row.proofs.RowLaws.{fit-both, texts-append}
-use Rattle.row.proofs.SetLaws.{flat-append}
-use Rattle.row.proofs.Laws.{decode-encode, encode-none, encoding-true, true-encoding}
 use Rattle.resolve.specs.Kinds.{isKind, isDefinition, isSchema}
 use Rattle.resolve.specs.Rules.{isFullName, isOwnName, goodText, goodStrings, goodSize, goodNote, goodPrecision, goodDecimal, goodNumbers, goodParts, goodRow, goodRows, climbs, isDeclaration}
-use Rattle.resolve.specs.Resolve.{faultIn, orElse, isResolved, resolves}
-use Rattle.resolve.specs.WellFormed.{Good, keepsRules, wellFormed}
-use Rattle.resolve.specs.declared.Resolution.{Resolution}
-use Rattle.resolve.specs.declared.Resolution.the-variants.{Resolved, Faulty}
-use Rattle.resolve.proofs.ResolveLaws.{fault-append}
 
 -- ---- the numbers of good rows
 
@@ -150,47 +141,6 @@ declaration-fits (r ∷ rows) e h =
     let p = and-true (goodRow r rows) (goodRows rows) (a .1) in
     and-intro (fits r) (allFit rows) (good-fits r rows (p .0) (omega arith)) (rows-fit 0 rows (b .1) (p .1) (omega arith))
 
-declarations-fit : (ds : List (List Row)) → every isDeclaration ds ≡ true → length (flat ds) ≤ rowLimit → allFit (flat ds) ≡ true
-unfolding every flat allFit
-declarations-fit [] e h = refl
-declarations-fit (d ∷ ds) e h =
-    let p = and-true (isDeclaration d) (every isDeclaration ds) e in
-    let n = length-append d (flat ds) in
-    fit-both d (flat ds) (declaration-fits d (p .0) (omega arith)) (declarations-fit ds (p .1) (omega arith))
-
--- memory can hold a good set
-pub good-within : (ds : List (List Row)) → Good ds → Within ds
-good-within ds g = record { declarations = g .few; rows = g .rows; strings = g .strings; numbers = declarations-fit ds (g .declarations) (g .rows) }
-
--- ---- EXACTNESS
-
-pub exact : (m : List ℕ) → wellFormed m ≡ true → (m ≡ encode (decode m)) × Good (decode m)
-unfolding wellFormed keepsRules
-exact m e =
-    let a = and-true (isEncoding m) _ e in
-    let b = encoding-true m (a .0) in
-    let c = and-true (every isDeclaration (decode m)) _ (a .1) in
-    (b .0, record { few = b .1 .declarations; rows = b .1 .rows; strings = b .1 .strings; declarations = c .0; resolved = c .1 })
-
-pub encode-good : (ds : List (List Row)) → Good ds → wellFormed (encode ds) ≡ true
-unfolding wellFormed keepsRules
-encode-good ds g =
-    let w = good-within ds g in
-    rw (true-encoding ds w, decode-encode ds w, g .declarations, g .resolved)
-
--- the bytes of a well-formed set come back
-pub encode-decode : (m : List ℕ) → wellFormed m ≡ true → encode (decode m) ≡ m
-encode-decode m e = sym (exact m e .0)
-
--- ---- the empty set, a set cut, one declaration more
-
-pub none-good : Good []
-unfolding every resolves faultIn flat texts
-none-good = record { few = omega arith; rows = omega arith; strings = omega arith; declarations = refl; resolved = refl }
-
-pub empty-formed : wellFormed (zeros layoutLength) ≡ true
-empty-formed = rw (← encode-none) (encode-good [] none-good)
-
 pub every-append : {A : Type 0} (test : A → Bool) (a b : List A) → every test (a ++ b) ≡ (every test a && every test b)
 unfolding every
 every-append test [] b = refl
@@ -199,60 +149,3 @@ every-append test (x ∷ a) b = rw (every-append test a b) (go (test x) (every t
     go : (p q z : Bool) → (p && (q && z)) ≡ (p && q && z)
     go true q z = refl
     go false q z = refl
-
-resolved-true : (r : Resolution) → isResolved r ≡ true → r ≡ Resolved
-resolved-true Resolved e = refl
-resolved-true (Faulty f) e = cc
-
-or-front : (a b : Resolution) → isResolved (orElse a b) ≡ true → isResolved a ≡ true
-or-front Resolved b e = refl
-or-front (Faulty f) b e = e
-
-module _ (a b : List (List Row)) where
-  resolves-append : resolves (a ++ b) ≡ isResolved (orElse (faultIn [] (flat a)) (faultIn (flat a) (flat b)))
-  unfolding resolves
-  resolves-append = ap isResolved (ap (faultIn []) (flat-append a b) ∙ fault-append [] (flat a) (flat b))
-
-  pub front-good : Good (a ++ b) → Good a
-  unfolding resolves
-  front-good g =
-      let n = length-append a b in
-      let k : length (flat (a ++ b)) ≡ length (flat a) + length (flat b) = ap length (flat-append a b) ∙ length-append (flat a) (flat b) in
-      let t : length (texts (flat (a ++ b))) ≡ length (texts (flat a)) + length (texts (flat b)) = ap (λ (x : List Row). length (texts x)) (flat-append a b) ∙ ap length (texts-append (flat a) (flat b)) ∙ length-append (texts (flat a)) (texts (flat b)) in
-      record {
-        few = omega (arith, g .few);
-        rows = omega (arith, g .rows);
-        strings = omega (arith, g .strings);
-        declarations = and-true (every isDeclaration a) _ (sym (every-append isDeclaration a b) ∙ g .declarations) .0;
-        resolved = or-front (faultIn [] (flat a)) _ (sym resolves-append ∙ g .resolved);
-      }
-
-pub cut-good : (ds : List (List Row)) (k : ℕ) → Good ds → Good (take k ds)
-cut-good ds k g = front-good (take k ds) (drop k ds) (rw (take-append-drop k ds) g)
-
-module _ (ds : List (List Row)) (d : List Row) (g : Good ds) where
-  -- what 22, 23 and 24, the rules, 25 and 26 ask of one declaration more
-  pub more-good : length ds < declarationLimit → length (flat ds) + length d ≤ rowLimit → length (texts (flat ds)) + length (texts d) ≤ stringLimit → isDeclaration d ≡ true → faultIn (flat ds) d ≡ Resolved
-      → Good (ds ++ (d ∷ []))
-  unfolding every flat resolves
-  more-good few rows strings e f =
-      let r : faultIn [] (flat ds) ≡ Resolved = resolved-true (faultIn [] (flat ds)) (g .resolved) in
-      let n = length-append ds (d ∷ []) in
-      let a : flat (ds ++ (d ∷ [])) ≡ flat ds ++ d = flat-append ds (d ∷ []) ∙ ap (λ (x : List Row). flat ds ++ x) (append-nil d) in
-      let k : length (flat (ds ++ (d ∷ []))) ≡ length (flat ds) + length d = ap length a ∙ length-append (flat ds) d in
-      let t : length (texts (flat (ds ++ (d ∷ [])))) ≡ length (texts (flat ds)) + length (texts d) = ap (λ (x : List Row). length (texts x)) a ∙ ap length (texts-append (flat ds) d) ∙ length-append (texts (flat ds)) (texts d) in
-      record {
-        few = omega arith;
-        rows = omega arith;
-        strings = omega arith;
-        declarations = every-append isDeclaration ds (d ∷ []) ∙ rw (g .declarations, e);
-        resolved = resolves-append ds (d ∷ []) ∙ rw (r, append-nil d, f);
-      }
-
--- the same of memory
-pub cut-formed : (m : List ℕ) (k : ℕ) → wellFormed m ≡ true → wellFormed (encode (take k (decode m))) ≡ true
-cut-formed m k e = encode-good (take k (decode m)) (cut-good (decode m) k (exact m e .1))
-
-pub more-formed : (m : List ℕ) (d : List Row) → wellFormed m ≡ true → length (decode m) < declarationLimit → length (flat (decode m)) + length d ≤ rowLimit → length (texts (flat (decode m))) + length (texts d) ≤ stringLimit
-    → isDeclaration d ≡ true → faultIn (flat (decode m)) d ≡ Resolved → wellFormed (encode (decode m ++ (d ∷ []))) ≡ true
-more-formed m d e few rows strings h f = encode-good (decode m ++ (d ∷ [])) (more-good (decode m) d (exact m e .1) few rows strings h f)

@@ -2,7 +2,6 @@ pub mod KindLaws
 pub mod MemoryLaws
 pub mod ResolveLaws
 pub mod TreeLaws
-pub mod DecodeLaws
 pub mod Laws
 mod ChainLaws
 mod LineLaws

@@ -1,5 +1,4 @@
 pub mod Kinds
 pub mod Rules
 pub mod Resolve
-pub mod WellFormed
 pub mod Steps

@@ -70,7 +70,7 @@ fn climbs_on(mem: &[u8], start: usize, end: usize) -> bool
 }
 
 // Are the n rows from `start` on one declaration? The tables are lent, whatever they hold.
-pub(crate) fn is_declaration_by(
+pub fn is_declaration_by(
     mem: &[u8],
     start: usize,
     n: usize,

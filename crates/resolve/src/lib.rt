@@ -1,7 +1,6 @@
-// Resolution of names over the rows of a set, and the exact test whether bytes are a well-formed set.
+// The rules that the rows of a declaration keep, and resolution of names over the rows of a set.
 mod clash;
 mod declaration;
-mod formed;
 mod kinds;
 mod names;
 mod numbers;
@@ -10,7 +9,7 @@ mod tree;
 
 use answer::Fault;
 pub use declaration::is_declaration;
-pub use formed::well_formed;
+pub use declaration::is_declaration_by;
 pub use names::first_fault;
 pub use names::is_defined;
 

@@ -6,7 +6,7 @@ pub(crate) fn judge(mem: &[u8], n: usize) {
     if mem.len() < n {
         return;
     }
-    if resolve::well_formed(&mem[0..n]) {
+    if formed::well_formed(&mem[0..n]) {
         io::write_all(1, b"1");
     } else {
         io::write_all(1, b"0");

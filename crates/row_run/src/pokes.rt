@@ -33,6 +33,13 @@ fn first_row(mem: &mut [u8]) {
     poke(mem, 74, 1);
 }
 
+// The length of a default, where there is none and where there is one; a row's own string longer into its default.
+fn lengths(mem: &mut [u8]) {
+    poke(mem, 73, 1);
+    poke(mem, 243, 7);
+    poke(mem, 242, 2);
+}
+
 fn spare(mem: &mut [u8]) {
     poke(mem, 780, 1);
     poke(mem, 34881, 1);
@@ -44,6 +51,7 @@ fn another(mem: &mut [u8]) {
     poke(mem, 66, 40);
     poke(mem, 69, 5);
     poke(mem, 34882, 255);
+    poke(mem, 34900, 255);
 }
 
 pub(crate) fn pokes(mem: &mut [u8]) {
@@ -53,6 +61,7 @@ pub(crate) fn pokes(mem: &mut [u8]) {
 }
 
 fn all_else(mem: &mut [u8]) {
+    lengths(mem);
     spare(mem);
     another(mem);
 }

@@ -3,6 +3,7 @@ use answer::Counts;
 use row::Entry;
 use row::Kind;
 use row::write::push;
+use row::write::push_both;
 
 // A row without numbers.
 fn plain(kind: Kind, depth: u16, position: u16) -> Entry {
@@ -29,6 +30,19 @@ fn decimal(kind: Kind, depth: u16, position: u16) -> Entry {
     }
 }
 
+// A field whose default stands at a place of the text.
+fn defaulted(depth: u16, position: u16, at: u64) -> Entry {
+    Entry {
+        kind: Kind::Field,
+        depth: depth,
+        position: position,
+        size: at,
+        note: 0,
+        precision: 0,
+        scale: 0,
+    }
+}
+
 fn fixed(depth: u16, position: u16, size: u64) -> Entry {
     Entry {
         kind: Kind::Fixed,
@@ -50,7 +64,7 @@ fn record_rows(mem: &mut [u8], counts: Counts) -> Counts {
 fn field_rows(mem: &mut [u8], counts: Counts) -> Counts {
     let a = push(mem, counts, plain(Kind::FieldAlias, 2, 310), b"y");
     let b = push(mem, a, plain(Kind::Int, 2, 320), b"");
-    push(mem, b, plain(Kind::Field, 1, 400), b"u")
+    push_both(mem, b, defaulted(1, 400, 773), b"u", b"[ null ]")
 }
 
 fn union_rows(mem: &mut [u8], counts: Counts) -> Counts {

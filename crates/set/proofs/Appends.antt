@@ -25,11 +25,11 @@ use Rattle.row.proofs.RowLaws.{texts-append}
 use Rattle.row.proofs.SetLaws.{flat-append}
 use Rattle.row.proofs.Laws.{counted-small, append-encode}
 use Rattle.resolve.specs.Resolve.{faultIn}
-use Rattle.resolve.specs.WellFormed.{Good, wellFormed}
+use Rattle.formed.specs.WellFormed.{Good, wellFormed}
 use Rattle.resolve.specs.declared.Resolution.{Resolution}
 use Rattle.resolve.specs.declared.Resolution.the-variants.{Resolved, Faulty}
 use Rattle.resolve.proofs.MemoryLaws.{length-rows}
-use Rattle.resolve.proofs.Laws.{good-within, more-good}
+use Rattle.formed.proofs.Laws.{good-within, more-good}
 use Rattle.set.specs.Lists.{Result, becomes, refuses, append, onResolved}
 use Rattle.set.specs.Calls.{answerOf, memoryOf}
 use Rattle.set.specs.Steps.{countedMore, pushedMore, Drafted, IsDraft, Ended}

@@ -23,8 +23,8 @@ use Rattle.row.specs.Rows.{Row, texts}
 use Rattle.row.specs.Sets.{flat, zeros, encode, decode, countIn}
 use Rattle.row.specs.Memory.{setCounts}
 use Rattle.row.proofs.Laws.{encode-none, decode-encode, count-encode}
-use Rattle.resolve.specs.WellFormed.{Good, wellFormed}
-use Rattle.resolve.proofs.Laws.{cut-good, good-within, encode-good}
+use Rattle.formed.specs.WellFormed.{Good, wellFormed}
+use Rattle.formed.proofs.Laws.{cut-good, good-within, encode-good}
 use Rattle.schema.specs.declared.walked.Walked.{Walked}
 use Rattle.schema.specs.declared.walked.Walked.the-variants.{Read, Bad}
 use Rattle.schema.specs.Out.{Out}

@@ -21,7 +21,7 @@ use Rattle.row.proofs.RowLaws.{texts-append}
 use Rattle.row.proofs.SetLaws.{flat-append}
 use Rattle.row.proofs.Laws.{place-encode}
 use Rattle.row.specs.declared.kind.Kind.{Kind}
-use Rattle.resolve.specs.WellFormed.{wellFormed}
+use Rattle.formed.specs.WellFormed.{wellFormed}
 use Rattle.resolve.proofs.MemoryLaws.{rows-cons}
 use Rattle.resolve.proofs.RuleLaws.{no-bytes}
 use Rattle.set.specs.Naming.{hasFullName, nameAmong, nameIn, fullNameIn, startAmong, startIn, fullNameStart, numbersOfNaming, namingOf}

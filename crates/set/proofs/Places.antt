@@ -17,8 +17,9 @@ use Rattle.row.proofs.RowLaws.{texts-append}
 use Rattle.row.proofs.SetLaws.{flat-append}
 use Rattle.row.proofs.Laws.{length-encode, count-encode, before-encode, counts-encode, rows-encode, strings-encode, size-encode, declaration-encode}
 use Rattle.resolve.specs.Rules.{isDeclaration}
-use Rattle.resolve.specs.WellFormed.{Good, wellFormed}
-use Rattle.resolve.proofs.Laws.{exact, good-within, every-append}
+use Rattle.formed.specs.WellFormed.{Good, wellFormed}
+use Rattle.resolve.proofs.Laws.{every-append}
+use Rattle.formed.proofs.Laws.{exact, good-within}
 
 -- the declaration at a place: how many rows and string bytes it has, and where they lie
 pub record Place (m : List ℕ) (ds : List (List Row)) (i : ℕ) : Type 0 where

@@ -23,10 +23,10 @@ use Rattle.row.specs.Memory.{sizeAt, rowsBefore, stringsBefore, countsIn, setCo
 use Rattle.row.proofs.Laws.{encode-none, decode-encode, count-encode, length-encode}
 use Rattle.resolve.specs.Rules.{isDeclaration}
 use Rattle.resolve.specs.Resolve.{faultIn}
-use Rattle.resolve.specs.WellFormed.{Good, wellFormed}
+use Rattle.formed.specs.WellFormed.{Good, wellFormed}
 use Rattle.resolve.specs.declared.Resolution.{Resolution}
 use Rattle.resolve.specs.declared.Resolution.the-variants.{Resolved, Faulty}
-use Rattle.resolve.proofs.Laws.{good-within, encode-good, cut-good, more-good}
+use Rattle.formed.proofs.Laws.{good-within, encode-good, cut-good, more-good}
 use Rattle.set.specs.Lists.{Result, becomes, refuses, refuse, next, append, appendAll, onResolved}
 use Rattle.set.specs.Calls.{answerOf, memoryOf}
 use Rattle.set.specs.Steps.{countedMore, pushedMore, Drafted, IsDraft, Ended}

@@ -12,7 +12,7 @@ use Rattle.row.specs.Layout.{layoutLength}
 use Rattle.row.specs.Rows.{Row}
 use Rattle.row.specs.Sets.{encode, decode}
 use Rattle.row.specs.Memory.{setCounts}
-use Rattle.resolve.specs.WellFormed.{wellFormed}
+use Rattle.formed.specs.WellFormed.{wellFormed}
 use Rattle.set.specs.Lists.{Result, becomes, refuses, refuse, putIn}
 
 -- in 01's numbers: an accepted call answers 0 and the set's three counts, a refused one the refusal's number, place and position. The contracts read an

@@ -13,7 +13,7 @@ use Rattle.row.specs.Sets.{decode}
 use Rattle.row.specs.declared.kind.Kind.{Kind}
 use Rattle.row.specs.declared.kind.Kind.the-variants.{Alias}
 use Rattle.resolve.specs.Kinds.{isKind, isNamed}
-use Rattle.resolve.specs.WellFormed.{wellFormed}
+use Rattle.formed.specs.WellFormed.{wellFormed}
 use Rattle.set.specs.declared.naming.Naming.{Naming}
 use Rattle.set.specs.declared.naming.Naming.the-variants.{Named, Refused}
 

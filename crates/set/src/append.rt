@@ -17,7 +17,7 @@ ghost use Rattle.answer.specs.declared.Answer.the-variants.{Refused};
 ghost use Rattle.row.specs.Layout.{declarationLimit, rowLimit, layoutLength};
 ghost use Rattle.row.specs.Rows.{Row};
 ghost use Rattle.row.specs.Sets.{countIn, rowsFrom, decode};
-ghost use Rattle.resolve.specs.WellFormed.{wellFormed};
+ghost use Rattle.formed.specs.WellFormed.{wellFormed};
 ghost use Rattle.set.specs.Lists.{append};
 ghost use Rattle.set.specs.Steps.{countedMore, pushedMore, Drafted, IsDraft, Ended};
 

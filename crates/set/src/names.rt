@@ -2,7 +2,7 @@
 use crate::naming::Naming;
 use answer::Refusal;
 use answer::Why;
-use resolve::well_formed;
+use formed::well_formed;
 use row::Kind;
 use row::read::declarations;
 use row::read::kind_at;
@@ -17,7 +17,7 @@ ghost use Rattle.row.specs.Layout.{rowLimit, stringsStart, layoutLength};
 ghost use Rattle.row.specs.Sets.{decode};
 ghost use Rattle.row.specs.Memory.{behind};
 ghost use Rattle.resolve.specs.Kinds.{isKind};
-ghost use Rattle.resolve.specs.WellFormed.{wellFormed};
+ghost use Rattle.formed.specs.WellFormed.{wellFormed};
 ghost use Rattle.set.specs.Naming.{hasFullName, nameIn, fullNameIn, startIn, fullNameStart, numbersOfNaming, namingOf};
 ghost use Rattle.set.specs.Steps.{rowName, rowNameStart, refusedName};
 

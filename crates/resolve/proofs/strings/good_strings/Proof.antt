@@ -1,6 +1,6 @@
 -- `resolve::strings::good_strings` meets its contract: no default, and a string by its kind.
 -- Assumes nothing.
-use mathlib.Core.Path.{sym, ap, _∙_}
+use mathlib.Core.Path.{ap, _∙_}
 use Rattle.resolve.specs.Rules.{goodText}
 use Rattle.resolve.proofs.TreeLaws.{a-default, no-default}
 use borrow.Author.Needs.{needs}

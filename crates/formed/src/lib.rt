@@ -1,8 +1,8 @@
 // Whether bytes are a well-formed set.
-use crate::Resolution;
-use crate::declaration::is_declaration_by;
-use crate::names::first_fault;
 use chains::SLOTS;
+use resolve::Resolution;
+use resolve::first_fault;
+use resolve::is_declaration_by;
 use row::read::declarations;
 use row::read::rows_before;
 use row::read::rows_of;
@@ -15,9 +15,9 @@ ghost use Rattle.name.specs.Name.{every};
 ghost use Rattle.row.specs.Layout.{declarationLimit, rowLimit, layoutLength};
 ghost use Rattle.row.specs.Sets.{countIn, rowsFrom, decode};
 ghost use Rattle.row.specs.Memory.{rowsBefore};
 ghost use Rattle.resolve.specs.Rules.{isDeclaration};
 ghost use Rattle.resolve.specs.Resolve.{faultIn, isResolved};
-ghost use Rattle.resolve.specs.WellFormed.{wellFormed};
+ghost use Rattle.formed.specs.WellFormed.{wellFormed};
 
 // Are the rows of each of the n places one declaration? One pair of tables serves them all.
 fn are_declarations(mem: &[u8], n: usize) -> bool

@@ -15,11 +15,11 @@ use Rattle.row.specs.Rows.{Row}
 use Rattle.row.specs.Sets.{flat, sum, encode, wordsOf, countIn, sizesIn, rowsFrom, split, decode, Within, isEncoding}
 use Rattle.row.specs.Memory.{sizeAt, rowsBefore}
 use Rattle.row.proofs.Laws.{length-encode, count-encode, before-encode, encoding-true}
 use Rattle.resolve.specs.Rules.{isDeclaration}
 use Rattle.resolve.specs.Resolve.{faultIn, isResolved, resolves}
-use Rattle.resolve.specs.WellFormed.{keepsRules, wellFormed}
+use Rattle.formed.specs.WellFormed.{keepsRules, wellFormed}
 use Rattle.resolve.specs.declared.Resolution.{Resolution}
 use Rattle.resolve.proofs.MemoryLaws.{rows-none, rows-add, length-rows}
 
 -- ---- k places from p on, whose rows start at s
 

@@ -1,12 +1,12 @@
--- `resolve::formed::well_formed` meets its contract.
+-- `formed::well_formed` meets its contract.
 -- Assumes nothing.
 use mathlib.Core.Path.{sym, _∙_}
 use native.Mathlib.Omega.{arith}
 use borrow.Author.Needs.{needs}
 use borrow.Author.Tests.{not-true, not-false}
-use Rattle.resolve.proofs.DecodeLaws.{left, formed-not, formed-long, formed-few, formed-fit, formed-asks, formed-bad, formed-last}
-use Rattle.resolve.proofs.formed.well_formed.Statement.{statement}
-use Rattle.resolve.proofs.formed.well_formed.Tie as tie
+use Rattle.formed.proofs.DecodeLaws.{left, formed-not, formed-long, formed-few, formed-fit, formed-asks, formed-bad, formed-last}
+use Rattle.formed.proofs.well_formed.Statement.{statement}
+use Rattle.formed.proofs.well_formed.Tie as tie
 
 is-encoding-requires : tie.Need-is-encoding-requires
 is-encoding-requires c κs = search needs

@@ -1,11 +1,11 @@
--- `resolve::formed::is_resolved` meets its contract.
+-- `formed::is_resolved` meets its contract.
 -- Assumes nothing.
 use mathlib.Core.Path.{sym, ap, _∙_}
 use borrow.Author.Needs.{needs}
 use Rattle.resolve.specs.Resolve.{isResolved}
-use Rattle.resolve.proofs.DecodeLaws.{resolved-start}
-use Rattle.resolve.proofs.formed.is_resolved.Statement.{statement}
-use Rattle.resolve.proofs.formed.is_resolved.Tie as tie
+use Rattle.formed.proofs.DecodeLaws.{resolved-start}
+use Rattle.formed.proofs.is_resolved.Statement.{statement}
+use Rattle.formed.proofs.is_resolved.Tie as tie
 
 first-fault-requires : tie.Need-first-fault-requires
 first-fault-requires c κs = search needs

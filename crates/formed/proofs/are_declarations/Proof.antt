@@ -1,4 +1,4 @@
--- `resolve::formed::are_declarations` meets its contract: the answer for the places that are left is the answer.
+-- `formed::are_declarations` meets its contract: the answer for the places that are left is the answer.
 -- Assumes nothing.
 use mathlib.Core.Path.{_≡_, sym, _∙_}
 use Prim.Native.Nat.{_+_, _-_, _≤_}
@@ -6,12 +6,12 @@ use borrow.Author.Tests.{not-true, not-false}
 use Rattle.name.specs.Name.{every}
 use Rattle.row.specs.Layout.{rowLimit}
 use Rattle.row.specs.Sets.{decode}
 use Rattle.resolve.specs.Rules.{isDeclaration}
 use Rattle.resolve.specs.Steps.{Sized}
-use Rattle.resolve.proofs.DecodeLaws.{rowsLeft, left, places-start, places-room, places-bad, places-fit, places-more, places-end}
+use Rattle.formed.proofs.DecodeLaws.{rowsLeft, left, places-start, places-room, places-bad, places-fit, places-more, places-end}
 use borrow.Author.Needs.{needs}
-use Rattle.resolve.proofs.formed.are_declarations.Statement.{statement}
-use Rattle.resolve.proofs.formed.are_declarations.Tie as tie
+use Rattle.formed.proofs.are_declarations.Statement.{statement}
+use Rattle.formed.proofs.are_declarations.Tie as tie
 
 abbrev Inv-loop : tie.InvT-loop
 Inv-loop mem n first₀ next₀ start₀ place₀ first next start place = (place ≤ n) × (start + rowsLeft mem place (n - place) ≤ rowLimit) × (every isDeclaration (decode mem) ≡ every isDeclaration (left mem place (n - place) start)) × Sized first next
