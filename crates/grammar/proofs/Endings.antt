@@ -1,5 +1,5 @@
 -- A run without its places: whether the bytes are taken, or why they are refused. Assumes nothing.
-use mathlib.Core.Path.{_≡_, refl, sym, ap, _∙_}
+use mathlib.Core.Path.{_≡_, refl, ap, _∙_}
 use mathlib.Core.Bool.{Bool, true, false, cond}
 use mathlib.Core.List.{List, [], _∷_}
 use Prim.Native.Nat.{ℕ, suc}
@@ -64,6 +64,3 @@ module _ (t : List ℕ) where
           no : _≡_ {A = ℕ} 0 1 → ⊥
           no z = omega arith
       cases (Bad f) e = let i : f .why ≡ w = cc in (f .at, ap (λ (y : Why). fault y (f .at)) i)
-
-  pub taken-of : verdict t ≡ Whole → ending val [] t ≡ taken
-  taken-of h = sym verdict-ending ∙ ap endingOf h

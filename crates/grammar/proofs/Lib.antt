@@ -6,7 +6,7 @@ mod Strings
 mod Numbers
 mod Bracketed
 mod Values
-mod Rests
+pub mod Rests
 mod OneByte
 mod Derived
 mod Nesting

@@ -12,7 +12,7 @@ use lib.ListN.{length, take, length-append}
 use lib.Seq.{take-at}
 use Rattle.answer.specs.declared.refusal.Why.{Why}
 use Rattle.answer.specs.declared.refusal.Why.the-variants.{TextTooLong, NotJson, NestedTooDeep}
-use Rattle.json.specs.Json.{Mode, Stack, Bracket, square, brace, val, first, done, key0, key, colon, word, num, str, longest, deepest, fault, verdict, scanned, start, live, reach}
+use Rattle.json.specs.Json.{Mode, Stack, Bracket, square, brace, val, first, done, key0, key, colon, word, num, str, longest, deepest, fault, run, verdict, scanned, start, live, reach}
 use Rattle.json.specs.Meets.{closer}
 use Rattle.json.specs.declared.verdict.Scan.{Scan}
 use Rattle.json.specs.declared.verdict.Scan.the-variants.{Whole, Bad}
@@ -21,18 +21,27 @@ use Rattle.json.proofs.Completion.{closers}
 use Rattle.json.proofs.Longest.{Longest, longest-prefix}
 use Rattle.json.proofs.Depth.{Opens, Begins, Deep, deep}
 use Rattle.grammar.specs.Grammar.{Byte, bytes, join, this, that, none, JSON-text}
-use Rattle.grammar.proofs.Endings.{whole-of, fault-of, taken-of}
+use Rattle.grammar.proofs.Endings.{endingOf, ending-run, whole-of, fault-of}
 use Rattle.grammar.proofs.Values.{text-ending}
 use Rattle.grammar.proofs.Bracketed.{opener}
 use Rattle.grammar.proofs.Rests.{After, over, close, Left}
 use Rattle.grammar.proofs.Nesting.{deeper}
 use Rattle.grammar.proofs.Derived.{left-of, left-reach, text-of, a-bracketed}
 
+-- what the automaton reads as a value within the brackets k is white space, a value of the grammar, and what may follow it there
+pub read-is-grammar : (s : List ℕ) (k : Stack) (p : ℕ) → run val k p s ≡ Whole → Left deepest val k s
+read-is-grammar s k p h = left-of deepest (omega arith) s val k (sym (ending-run s val k p) ∙ ap endingOf h)
+
 pub accepted-is-grammar : (t : List ℕ) → verdict t ≡ Whole → JSON-text deepest t
-accepted-is-grammar t h = text-of deepest (left-of deepest (omega arith) t val [] (taken-of t h))
+unfolding verdict
+accepted-is-grammar t h = text-of deepest (read-is-grammar t [] 0 h)
+
+-- of whatever nesting up to 64
+pub nested-is-accepted : (n : ℕ) → n ≤ deepest → (t : List ℕ) → JSON-text n t → verdict t ≡ Whole
+nested-is-accepted n l t d = ⊎-elim (λ e. whole-of t e) (λ e. absurd (e .1)) (text-ending {Too = ⊥} n (inl l) d)
 
 pub grammar-is-accepted : (t : List ℕ) → JSON-text deepest t → verdict t ≡ Whole
-grammar-is-accepted t d = ⊎-elim (λ e. whole-of t e) (λ e. absurd (e .1)) (text-ending {Too = ⊥} deepest (inl (omega arith)) d)
+grammar-is-accepted t d = nested-is-accepted deepest (omega arith) t d
 
 no-scan : (w : Why) (p : ℕ) → fault w p ≡ Whole → ⊥
 no-scan w p h = let z : _≡_ {A = ℕ} 0 1 = cc in omega arith

@@ -10,3 +10,4 @@ mod Values
 mod Lists
 mod Octets
 pub mod Theorems
+pub mod Cut

@@ -1,7 +1,7 @@
 -- Words and numbers: where they end, and sizes. Assumes nothing.
 use mathlib.Core.Path.{_≡_, refl, sym, ap, _∙_}
 use mathlib.Core.Bool.{Bool, true, false, cond, not}
-use mathlib.Core.List.{List, [], _∷_, _++_, append-assoc}
+use mathlib.Core.List.{List, [], _∷_, _++_, append-assoc, append-nil}
 use Prim.Native.Nat.{ℕ, suc, _+_, _-_, _*_, _≤_}
 use native.Mathlib.Omega.{arith}
 use lib.Dec.{leb}
@@ -97,6 +97,13 @@ token-number =
     (token-optional
     (token-join (token-alt (token-byte 101 refl) (token-byte 69 refl))
     (token-join (token-optional (token-alt (token-byte 45 refl) (token-byte 43 refl))) token-digits)))))
+
+-- all bytes of a number
+pub number-tokens : {s : List ℕ} → number s → count isToken s ≡ length s
+unfolding count
+number-tokens {s} d =
+    let a : count isToken s ≡ length s + 0 = ap (count isToken) (sym (append-nil s)) ∙ token-number .took s d [] in
+    omega arith
 
 -- ---- where they end
 token-end : (t : List ℕ) (p : ℕ) (s u : List ℕ) → drop p t ≡ s ++ u → count isToken (s ++ u) ≡ length s + count isToken u → Stops u → isBlock (byteAt t p) ≡ false → endOf t p ≡ p + length s

@@ -31,7 +31,7 @@ pub record Shows (t : List ℕ) (n p : ℕ) (s : List ℕ) (x : Tree) : Type 0 w
 
 module _ (t : List ℕ) (n p : ℕ) where
   -- the bytes of a value that ends where s does
-  bytes-at : (s u : List ℕ) → drop p t ≡ s ++ u → endOf t p ≡ p + length s → part t p (endOf t p - p) ≡ s
+  pub bytes-at : (s u : List ℕ) → drop p t ≡ s ++ u → endOf t p ≡ p + length s → part t p (endOf t p - p) ≡ s
   unfolding part
   bytes-at s u e h = let l : endOf t p - p ≡ length s = omega arith in rw (l, e) (take-at s u (length s) refl)
 
