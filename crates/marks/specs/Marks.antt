@@ -17,7 +17,7 @@ use Rattle.view.specs.Members.{firstKey, isMember, keyBehind, keyFrom, keysAt, 
 use Rattle.view.specs.Size.{fitting, sizeFrom, sizeOf}
 use Rattle.view.specs.Strings.{bytesFrom, isStop, partAt, stringAt, stringFrom}
 use Rattle.view.specs.Values.{count, isValue, shapeOf, skipOf}
-use Rattle.row.specs.Rows.{Row, texts}
+use Rattle.row.specs.Rows.{Row, stringsOf, texts}
 use Rattle.row.specs.Sets.{flat}
 use Rattle.form.specs.Forms.{formBy, formWithin, objectForm, wordKind}
 use Rattle.form.specs.Names.{aliasCheck, definedAt, definitionCheck, fullAt, namespaceCheck, namespaceOf, referenceCheck, simpleCheck}
@@ -154,5 +154,5 @@ marks =
 
 -- every mark's answer is the one that the definitions give
 pub marks-hold : map (λ (m : Mark). answerTo (m .0)) marks ≡ map (λ (m : Mark). m .1) marks
-unfolding marks byteAt same every isEmpty isOneOf isWithin isLetter isDigit isFirst isLater isSimple joined ontoFirst parts isDotted startsWithDot isName isNamespace hasDot fullName lastOf lastPart namespacePart reservedWords isReserved wordOf simple number text run verdict scanned valueFrom firstElement nextElement unroll elementsAt elements isDelimiter literalEnd modeAfter depthAfter atRest toRest closingOf isBlock endOf valueOf isMember keyFrom firstKey keyBehind keysAt membersAt lastUnder member membersOf fitting sizeFrom sizeOf partAt isStop stringFrom bytesFrom stringAt count skipOf shapeOf isValue texts flat wordKind objectForm formBy formWithin simpleCheck fullAt referenceCheck aliasCheck namespaceOf definedAt namespaceCheck definitionCheck asText asArray allTexts aliasesIn objectsAmong fieldsIn fieldNameAt takenBy fieldNamesCheck clash headOf before isNew unionCheck each referenceRows primitiveRows wordRows aliasRows definitionRows definition fieldAliasRows fieldRows fieldsRows recordRows fixedRows unionRows schemaBy schemaOf rowsOf declared isKind isDefinition defines isDefined faultOf faultIn append appendAll putIn isWritten startsAt partsOf listed textOf canonicalOf opening closing bitStep bitSteps entryOf byteBits byteStep rabinFrom isShort some under
+unfolding marks byteAt same every isEmpty isOneOf isWithin isLetter isDigit isFirst isLater isSimple joined ontoFirst parts isDotted startsWithDot isName isNamespace hasDot fullName lastOf lastPart namespacePart reservedWords isReserved wordOf simple number text run verdict scanned valueFrom firstElement nextElement unroll elementsAt elements isDelimiter literalEnd modeAfter depthAfter atRest toRest closingOf isBlock endOf valueOf isMember keyFrom firstKey keyBehind keysAt membersAt lastUnder member membersOf fitting sizeFrom sizeOf partAt isStop stringFrom bytesFrom stringAt count skipOf shapeOf isValue stringsOf texts flat wordKind objectForm formBy formWithin simpleCheck fullAt referenceCheck aliasCheck namespaceOf definedAt namespaceCheck definitionCheck asText asArray allTexts aliasesIn objectsAmong fieldsIn fieldNameAt takenBy fieldNamesCheck clash headOf before isNew unionCheck each referenceRows primitiveRows wordRows aliasRows definitionRows definition fieldAliasRows fieldRows fieldsRows recordRows fixedRows unionRows schemaBy schemaOf rowsOf declared isKind isDefinition defines isDefined faultOf faultIn append appendAll putIn isWritten startsAt partsOf listed textOf canonicalOf opening closing bitStep bitSteps entryOf byteBits byteStep rabinFrom isShort some under
 marks-hold = refl
