@@ -9,7 +9,7 @@ use lib.Dec.{eqb, ltb}
 use lib.ListN.{length}
 use borrow.Author.Tests.{eqb-true, ltb-true}
 use Rattle.answer.specs.declared.refusal.Why.the-variants.{NestedTooDeep}
-use Rattle.ground.specs.Bytes.{byteAt, same}
+use Rattle.ground.specs.Bytes.{byteAt}
 use Rattle.json.specs.Json.{Mode, Stack, Move, Bracket, go, die, deepest, isDigit, square, brace, val, first, key0, opens, step}
 use Rattle.json.specs.Meets.{runAt}
 use Rattle.view.specs.declared.space.Spot.{Spot}
@@ -17,14 +17,13 @@ use Rattle.view.specs.declared.space.Spot.the-variants.{At, Nowhere}
 use Rattle.view.specs.declared.shape.Shape.the-variants.{Text, Number, Object, Array, Word, Nothing}
 use Rattle.view.specs.Values.{shapeOf, shapeAt}
 use Rattle.view.specs.Elements.{elements}
-use Rattle.view.specs.Strings.{stringAt}
-use Rattle.view.specs.Members.{Member, membersAt, lastUnder, member}
+use Rattle.view.specs.Members.{member}
 use Rattle.view.proofs.Laws.{All}
 use Rattle.viewed.proofs.Machine.{never}
 use Rattle.viewed.proofs.Blocks.{Lives, lives}
 use Rattle.viewed.proofs.Literals.{gone}
 use Rattle.viewed.proofs.Scanned.{Scanned, more, at-lives}
-use Rattle.viewed.proofs.Nested.{elements-scanned, members-scanned}
+use Rattle.viewed.proofs.Nested.{elements-scanned, member-scanned}
 use Rattle.form.specs.Spots.{isArray, isObject, asArray, objectsAmong, fieldsIn}
 
 -- ---- a first byte by the shape that it gives
@@ -69,21 +68,6 @@ as-array t (At p) v e = go1 (isArray (shapeAt t p)) refl e
     go1 : (b : Bool) → isArray (shapeAt t p) ≡ b → cond b (At p) Nowhere ≡ At v → (At p ≡ At v) × (byteAt t v ≡ 91)
     go1 true h e = (e, subst (λ (x : ℕ). byteAt t x ≡ 91) (same-spot e) (array-byte (byteAt t p) h))
     go1 false h e = somewhere e
-
--- what holds of every member's value holds of the value under a key
-module _ (t w : List ℕ) (P : ℕ → Type 0) where
-  last-all : (ms : List Member) (s : Spot) → All (λ m. P (m .value)) ms → ((v : ℕ) → s ≡ At v → P v) → (v : ℕ) → lastUnder t w s ms ≡ At v → P v
-  unfolding lastUnder
-  last-all [] s a h v e = h v e
-  last-all (m ∷ ms) s a h v e = last-all ms (cond (same (stringAt t (m .key)) w) (At (m .value)) s) (a .1) (go1 (same (stringAt t (m .key)) w)) v e
-    where
-      go1 : (x : Bool) (u : ℕ) → cond x (At (m .value)) s ≡ At u → P u
-      go1 true u f = subst P (same-spot f) (a .0)
-      go1 false u f = h u f
-
-  pub member-all : (p : ℕ) → All (λ m. P (m .value)) (membersAt t p) → (v : ℕ) → member t p w ≡ At v → P v
-  unfolding member
-  member-all p a v e = last-all (membersAt t p) Nowhere a (λ u f. somewhere f) v e
 
 -- ---- an opening bracket finds room on the stack
 
@@ -130,9 +114,7 @@ module _ (t : List ℕ) (n p : ℕ) where
   deep-member o w v e =
       let k = o .deep .stack in
       let s = o .deep .scanned in
-      let r = room t p k 123 brace key0 refl (o .byte) s in
-      member-all t w (Deep t (suc n)) p
-      (map-all (λ (m : Member). within k brace (o .deep .least) r (m .value)) (membersAt t p) (members-scanned t k p (o .byte) s)) v e
+      within k brace (o .deep .least) (room t p k 123 brace key0 refl (o .byte) s) v (member-scanned t p k (o .byte) s w v e)
 
 -- ---- the fields of a record
 

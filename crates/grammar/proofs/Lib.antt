@@ -1,4 +1,4 @@
--- The way to the theorems, which are in `Theorems`.
+-- The way to the theorems, which are in `Theorems`; what a state of the automaton leaves open is in `Rests`.
 mod Endings
 mod Takes
 mod Classes

@@ -36,7 +36,7 @@ pub accepted-is-grammar : (t : List ℕ) → verdict t ≡ Whole → JSON-text d
 unfolding verdict
 accepted-is-grammar t h = text-of deepest (read-is-grammar t [] 0 h)
 
--- of whatever nesting up to 64
+-- a text of the grammar with nesting at most n is accepted where n is at most 64
 pub nested-is-accepted : (n : ℕ) → n ≤ deepest → (t : List ℕ) → JSON-text n t → verdict t ≡ Whole
 nested-is-accepted n l t d = ⊎-elim (λ e. whole-of t e) (λ e. absurd (e .1)) (text-ending {Too = ⊥} n (inl l) d)
 

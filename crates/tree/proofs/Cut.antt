@@ -1,6 +1,6 @@
--- A value of a text that the scan finds whole, cut out of it at both ends, is itself a text that the scan finds whole (`value-whole`).
+-- A value of a text that the scan finds whole, cut out of it, is itself a text that the scan finds whole (`value-whole`).
 -- It is not empty, it ends within the text, and neither its first byte nor its last is white space (`value-cut`).
--- The way: what the automaton reads there is a value of the grammar, whose bytes are those up to the end that the view finds.
+-- The way: what the automaton reads there is a value of the grammar, and its bytes are those up to the end that the view finds.
 -- Assumes nothing.
 use mathlib.Core.Path.{_≡_, refl, sym, ap, subst, _∙_}
 use mathlib.Core.Bool.{Bool, true, false, cond, not, _||_}
@@ -23,7 +23,7 @@ use Rattle.grammar.proofs.Theorems.{read-is-grammar, nested-is-accepted}
 use Rattle.tree.proofs.Standing.{Stops, past, skip-over, skip-none}
 use Rattle.tree.proofs.Rests.{run-byte, run-values, run-members}
 use Rattle.tree.proofs.Tokens.{AllTokens, Leads, number-leads, number-tokens, number-end, word-end}
-use Rattle.tree.proofs.Frames.{Framed, framed, string-end}
+use Rattle.tree.proofs.Frames.{framed, string-end}
 use Rattle.tree.proofs.Values.{bytes-at}
 
 -- ---- white space ends a word and a number
@@ -68,7 +68,7 @@ last-token b (c ∷ r) h = last-token c r (go (isDelimiter b) (count isToken (c 
     go true m e = absurd (omega arith)
     go false m e = omega arith
 
--- ---- the value at p, cut out: the bytes from there to its end
+-- ---- the value at p, cut out of t: its bytes are those from p up to its end
 pub record Cut (t : List ℕ) (p : ℕ) : Type 0 where
   pub some : p < endOf t p
   pub within : endOf t p ≤ length t
@@ -101,10 +101,10 @@ module _ (t : List ℕ) (n : ℕ) (room : n ≤ deepest) (p : ℕ) where
   word-cut b r u d h k f l e z = taken p b r u (skip-none t p f e) d e (word-end t p b r u h k e z) f l
 
   number-cut : {s : List ℕ} (u : List ℕ) → value n s → number s → drop p t ≡ s ++ u → Stops u → Cut t (skipOf t p)
-  number-cut {s} u d m e z = go (number-leads m) d e (number-end t p m u e z) (number-tokens m)
+  number-cut u d m e z = go (number-leads m) d e (number-end t p m u e z) (number-tokens m)
     where
       go : {s : List ℕ} → Leads s → value n s → drop p t ≡ s ++ u → endOf t p ≡ p + length s → count isToken s ≡ length s → Cut t (skipOf t p)
-      go {s} l d e h c =
+      go l d e h c =
           let i = l .is in
           let e′ : drop p t ≡ (l .first ∷ l .others) ++ u = e ∙ ap (λ (y : List ℕ). y ++ u) i in
           taken p (l .first) (l .others) u (skip-none t p (l .solid) e′) (subst (value n) i d) e′ (h ∙ ap (λ (y : List ℕ). p + length y) i) (l .solid)
@@ -170,6 +170,7 @@ value-stands t (suc n) h p s u (that (that (that (that (this d))))) e k = array-
 value-stands t (suc n) h p s u (that (that (that (that (that (this d)))))) e k = number-cut t (suc n) h p u (that (that (that (that (that (this d)))))) d e k
 value-stands t (suc n) h p s u (that (that (that (that (that (that d)))))) e k = string-cut t (suc n) h p u (that (that (that (that (that (that d)))))) d e
 
+-- ---- any value that the automaton reads
 module _ (t : List ℕ) (p : ℕ) (k : Stack) (s : Scanned t p k) where
   pub value-cut : Cut t p
   unfolding runAt

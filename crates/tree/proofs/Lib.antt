@@ -1,4 +1,4 @@
--- The way to the theorems, which are in `Theorems`.
+-- The way to the theorems, which are in `Theorems` and `Cut`.
 mod Standing
 mod Digits
 pub mod Utf8

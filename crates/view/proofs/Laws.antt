@@ -111,6 +111,7 @@ unfolding lastUnder
 last-counts t w s [] m = refl
 last-counts t w s (x ∷ ms) m = last-counts t w (cond (same (stringAt t (x .key)) w) (At (x .value)) s) ms m
 
+-- what holds of every member's value holds of the value under a key
 module _ (t w : List ℕ) (P : ℕ → Type 0) where
   of-all : (ms : List Member) (s : Spot) → All (λ m. P (m .value)) ms → ((v : ℕ) → s ≡ At v → P v) → (v : ℕ) → lastUnder t w s ms ≡ At v → P v
   unfolding lastUnder
@@ -121,14 +122,17 @@ module _ (t w : List ℕ) (P : ℕ → Type 0) where
       go true u f = let z : m .value ≡ u = cc in rw z at (a .0)
       go false u f = h u f
 
+  pub member-all : (p : ℕ) → All (λ m. P (m .value)) (membersAt t p) → (v : ℕ) → member t p w ≡ At v → P v
+  unfolding member
+  member-all p a v e = of-all (membersAt t p) Nowhere a (λ u f. none f) v e
+    where
+      none : {u : ℕ} → Nowhere ≡ At u → P u
+      none f = let z : _≡_ {A = ℕ} 0 1 = cc in absurd (omega arith)
+
 -- it stands behind the brace and within the text
 pub member-inside : (t : List ℕ) (p : ℕ) (w : List ℕ) (v : ℕ) → member t p w ≡ At v → Inside t p v
-unfolding member
-member-inside t p w v e = of-all t w (Inside t p) (membersAt t p) Nowhere (go (membersAt t p) (members-inside t p)) (λ u f. none f) v e
+member-inside t p w v e = member-all t w (Inside t p) p (go (membersAt t p) (members-inside t p)) v e
   where
-    none : {u : ℕ} → Nowhere ≡ At u → Inside t p u
-    none f = let z : _≡_ {A = ℕ} 0 1 = cc in absurd (omega arith)
-
     go : (ms : List Member) → All (Entered t p) ms → All (λ m. Inside t p (m .value)) ms
     go [] a = tt
     go (m ∷ ms) a =

@@ -20,8 +20,8 @@ use Rattle.view.specs.declared.space.Spot.the-variants.{At, Nowhere}
 use Rattle.view.specs.Values.{skipOf, shapeOf, isValue, startsValue}
 use Rattle.view.specs.Ends.{modeAfter, depthAfter, atRest, toRest, closingOf, isBlock, endOf}
 use Rattle.view.specs.Elements.{valueFrom, firstElement, nextElement, unroll, elementsAt, elements}
-use Rattle.view.specs.Members.{colonOf, valueOf, isMember, keyFrom, firstKey, keyBehind, keyAfter, keysAt, memberOf, membersAt}
-use Rattle.view.proofs.Laws.{All, all-on, all-map}
+use Rattle.view.specs.Members.{colonOf, valueOf, isMember, keyFrom, firstKey, keyBehind, keyAfter, keysAt, memberOf, membersAt, member}
+use Rattle.view.proofs.Laws.{All, all-on, all-map, member-all}
 use Rattle.viewed.proofs.Machine.{never}
 use Rattle.viewed.proofs.Blocks.{Lives, lives, run-lives, string-closes, closes-later}
 use Rattle.viewed.proofs.Literals.{gone}
@@ -262,3 +262,7 @@ module _ (t : List ℕ) (k : Stack) where
   members-scanned p e s =
       all-map (memberOf t) (λ m. Scanned t (m .value) (brace ∷ k)) (unroll (keyAfter t) (suc (length t)) (firstKey t p))
       (all-on (λ q. Scanned t (valueOf t q) (brace ∷ k)) (keyAfter t) (λ x q i g. next-key-scanned (valueOf t x) i q g) (suc (length t)) (firstKey t p) (λ q g. first-key-scanned p e s q g))
+
+-- so is the value under a key
+pub member-scanned : (t : List ℕ) (p : ℕ) (k : Stack) → byteAt t p ≡ 123 → Scanned t p k → (w : List ℕ) (v : ℕ) → member t p w ≡ At v → Scanned t v (brace ∷ k)
+member-scanned t p k b s w v e = member-all t w (λ q. Scanned t q (brace ∷ k)) p (members-scanned t k p b s) v e
