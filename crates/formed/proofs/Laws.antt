@@ -104,4 +104,3 @@ module _ (ds : List (List Row)) (d : List Row) (g : Good ds) where
         declarations = every-append isDeclaration ds (d ∷ []) ∙ rw (g .declarations, e);
         resolved = resolves-append ds (d ∷ []) ∙ rw (r, append-nil d, f);
       }
-

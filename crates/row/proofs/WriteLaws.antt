@@ -110,8 +110,8 @@ module _ (c : Counts) (e : Entry) (t d : List ℕ) (n : ℕ) (en : n ≡ min (le
   unfolding hasRoom
   same-room =
       elim (decLe (c .«string_bytes» + n) stringLimit) [
-        yes k ↦ rw (le-leb (c .«string_bytes» + n) stringLimit k, le-leb (c .«string_bytes» + length (stringsOf r)) stringLimit (omega (arith, long)))
-      | no k ↦ rw (lt-leb (c .«string_bytes» + n) stringLimit (omega arith), lt-leb (c .«string_bytes» + length (stringsOf r)) stringLimit (omega (arith, long)))
+        | yes k ↦ rw (le-leb (c .«string_bytes» + n) stringLimit k, le-leb (c .«string_bytes» + length (stringsOf r)) stringLimit (omega (arith, long)))
+        | no k ↦ rw (lt-leb (c .«string_bytes» + n) stringLimit (omega arith), lt-leb (c .«string_bytes» + length (stringsOf r)) stringLimit (omega (arith, long)))
       ]
 
   pub both-counted : (x : Counts) → x ≡ counted c n → x ≡ counted c (length (stringsOf (withDefault e t d)))

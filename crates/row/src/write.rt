@@ -164,13 +164,7 @@ fn write(mem: &mut [u8], counts: Counts, row: Entry, text: &[u8], default: &[u8]
 }
 
 // One row more with its strings, behind those that are counted; past a limit it is counted and not written.
-pub fn push_both(
-    mem: &mut [u8],
-    counts: Counts,
-    row: Entry,
-    text: &[u8],
-    default: &[u8],
-) -> Counts
+pub fn push_both(mem: &mut [u8], counts: Counts, row: Entry, text: &[u8], default: &[u8]) -> Counts
     ensures { λ r. ⌜ (r ≡ counted counts (length (stringsOf (withDefault row (now (text .entry)) (now (default .entry))))))
         × (now (mem .exit) ≡ pushed (now (mem .entry)) counts (withDefault row (now (text .entry)) (now (default .entry)))) ⌝ }
 {
