@@ -8,9 +8,10 @@ use native.Mathlib.Omega.{arith}
 use lib.Dec.{eqb, leb, ltb, lit≤}
 use lib.ListN.{length}
 use borrow.Author.Tests.{lt-ltb, ltb-true, leb-true, eqb-true}
-use Rattle.ground.proofs.Laws.{never, and-true, and-intro}
+use Rattle.ground.proofs.Laws.{and-true, and-intro}
 use Rattle.name.specs.Name.{every, isEmpty, isSimple, isDotted, isReserved}
 use Rattle.name.specs.Full.{isShort, keptLimit}
+use Rattle.name.proofs.Laws.{empty-nil}
 use Rattle.json.specs.Json.{longest}
 use Rattle.row.specs.Layout.{rowLimit}
 use Rattle.row.specs.Rows.{Row, fits, allFit}
@@ -74,9 +75,7 @@ unfolding isShort
 short-fits s e = omega (arith, leb-true (length s) keptLimit e)
 
 empty-fits : (s : List ℕ) → isEmpty s ≡ true → length s < 2 ^ 8
-unfolding isEmpty
-empty-fits [] e = lit≤ tt
-empty-fits (b ∷ s) e = never e
+empty-fits s e = rw (empty-nil s e) (lit≤ tt)
 
 text-fits : (k : Kind) (s : List ℕ) → goodText k s ≡ true → length s < 2 ^ 8
 unfolding goodText isFullName isOwnName

@@ -4,6 +4,7 @@ use mathlib.Core.Path.{_≡_, refl, sym, ap, _∙_}
 use mathlib.Core.Bool.{Bool, true, false, _||_, or-assoc}
 use mathlib.Core.List.{List, [], _∷_, _++_, append-assoc, append-nil}
 use Prim.Native.Nat.{ℕ, _+_, _-_, _<_, _≤_}
+use native.Mathlib.Nat.{sub-zero}
 use Rattle.answer.specs.declared.refusal.Fault.{Fault}
 use Rattle.answer.specs.declared.refusal.Why.the-variants.{DefinedAlready, ReferenceUnknown}
 use Rattle.row.specs.Rows.{Row}
@@ -12,11 +13,11 @@ use Rattle.row.specs.Memory.{entryAt, textAt, rowAt}
 use Rattle.row.specs.declared.kind.Kind.the-variants.{Reference}
 use Rattle.resolve.specs.Kinds.{isKind, isDefinition}
 use Rattle.resolve.specs.Rules.{some}
-use Rattle.resolve.specs.Resolve.{defines, isDefined, faultOf, orElse, faultIn}
+use Rattle.resolve.specs.Resolve.{defines, isDefined, definitionIn, faultOf, orElse, faultIn}
 use Rattle.resolve.specs.declared.Resolution.{Resolution}
 use Rattle.resolve.specs.declared.Resolution.the-variants.{Resolved, Faulty}
 use Rattle.resolve.proofs.KindLaws.{definition-reference}
-use Rattle.resolve.proofs.MemoryLaws.{rows-none, rows-left, rows-done, rows-all, rows-snoc}
+use Rattle.resolve.proofs.MemoryLaws.{rows-none, rows-next, rows-end, rows-left, rows-done, rows-all, rows-snoc}
 
 -- ---- what is defined
 
@@ -43,6 +44,25 @@ module _ (m : List ℕ) (s n i : ℕ) (name : List ℕ) (x : Bool) (inv : x ≡ 
   pub defined-end : n ≤ i → false ≡ x
   unfolding isDefined some
   defined-end l = sym (inv ∙ rw (rows-done m s n i l))
+
+-- ---- the turns of definition_of
+
+pub definition-start : (m : List ℕ) (n : ℕ) (name : List ℕ) → definitionIn name (rowsFrom m n 0) ≡ definitionIn name (rowsFrom m (n - 0) 0)
+definition-start m n name = rw sub-zero
+
+module _ (m : List ℕ) (n i : ℕ) (name : List ℕ) (x : List Row) (inv : x ≡ definitionIn name (rowsFrom m (n - i) i)) where
+  module _ (l : i < n) {s : List ℕ} (e : s ≡ name) {b : Bool} (f : b ≡ defines s (rowAt m i)) where
+    pub definition-hit : b ≡ true → rowsFrom m (n - i) i ≡ x
+    unfolding definitionIn
+    definition-hit h = sym (inv ∙ rw (rows-next m i n l, ← e, ← f, h))
+
+    pub definition-more : b ≡ false → x ≡ definitionIn name (rowsFrom m (n - (i + 1)) (i + 1))
+    unfolding definitionIn
+    definition-more h = inv ∙ rw (rows-next m i n l, ← e, ← f, h)
+
+  pub definition-end : n ≤ i → rowsFrom m (n - i) i ≡ x
+  unfolding definitionIn
+  definition-end l = sym (inv ∙ rw (rows-end m i n l))
 
 -- ---- one row's fault
 

@@ -10,7 +10,8 @@ use native.Mathlib.Omega.{arith}
 use lib.Dec.{eqb, eqb·suc-zero}
 use lib.ListN.{length}
 use borrow.Author.Tests.{lt-ltb, le-ltb, le-leb, lt-leb, eq-eqb, ne-eqb}
-use Rattle.name.specs.Name.{every, isEmpty}
+use Rattle.name.specs.Name.{every}
+use Rattle.name.proofs.Laws.{empty-none, empty-some}
 use Rattle.row.specs.Rows.{Row}
 use Rattle.row.specs.Sets.{rowsFrom}
 use Rattle.row.specs.Memory.{entryAt, textAt, defaultAt, rowAt}
@@ -172,24 +173,14 @@ module _ (m : List ℕ) (end j : ℕ) (x : Bool) (inv : x ≡ goodRows (rowsFrom
   good-more l e = inv ∙ rw (rows-next m j end l, e)
 
 -- a row's strings
-no-bytes : (s : List ℕ) → length s ≡ 0 → isEmpty s ≡ true
-unfolding isEmpty
-no-bytes [] h = refl
-no-bytes (b ∷ s) h = absurd (omega arith)
-
-some-bytes : (s : List ℕ) → (length s ≡ 0 → ⊥) → isEmpty s ≡ false
-unfolding isEmpty
-some-bytes [] h = absurd (h refl)
-some-bytes (b ∷ s) h = refl
-
 module _ (m : List ℕ) (i : ℕ) (d : List ℕ) (e : d ≡ defaultAt m i) where
   pub a-default : (length d ≡ 0 → ⊥) → false ≡ goodStrings (rowAt m i)
   unfolding goodStrings
-  a-default h = rw (← e, some-bytes d h, and-false)
+  a-default h = rw (← e, empty-some d h, and-false)
 
   pub no-default : length d ≡ 0 → goodText (entryAt m i .kind) (textAt m i) ≡ goodStrings (rowAt m i)
   unfolding goodStrings
-  no-default h = rw (← e, no-bytes d h, and-true)
+  no-default h = rw (← e, empty-none d h, and-true)
 
 -- a row's tests, one after the other
 module _ (m : List ℕ) (i : ℕ) (rest : List Row) where

@@ -20,6 +20,11 @@ defines name r = isDefinition (r .kind) && same (r .text) name
 unfoldable pub isDefined : List Row → List ℕ → Bool
 isDefined rows name = some (defines name) rows
 
+-- the rows from the one on that defines a name; none where no row does
+unfoldable pub definitionIn : List ℕ → List Row → List Row
+definitionIn name [] = []
+definitionIn name (r ∷ rows) = cond (defines name r) (r ∷ rows) (definitionIn name rows)
+
 abbrev pub faulty : Why → Row → Resolution
 faulty why r = Faulty (record { why = why; at = r .position })
 

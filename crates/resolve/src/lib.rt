@@ -10,6 +10,8 @@ mod tree;
 use answer::Fault;
 pub use declaration::is_declaration;
 pub use declaration::is_declaration_by;
+pub use kinds::is_kind;
+pub use names::definition_of;
 pub use names::first_fault;
 pub use names::is_defined;
 

@@ -22,8 +22,8 @@ ghost use Rattle.chains.specs.Chains.{slots, slotOf, onChain};
 ghost use Rattle.chains.specs.Marks.{markOf};
 ghost use Rattle.row.specs.Layout.{rowLimit, layoutLength};
 ghost use Rattle.row.specs.Sets.{rowsFrom};
-ghost use Rattle.row.specs.Memory.{rowAt};
-ghost use Rattle.resolve.specs.Resolve.{defines, isDefined, faultOf, faultIn};
+ghost use Rattle.row.specs.Memory.{textAt, rowAt};
+ghost use Rattle.resolve.specs.Resolve.{defines, isDefined, definitionIn, faultOf, faultIn};
 ghost use Rattle.resolve.specs.Steps.{Sized, isNamedAt, KeepsNames, firstWith, nextWith};
 
 // Does row i define the name?
@@ -50,6 +50,22 @@ pub fn is_defined(mem: &[u8], start: usize, n: usize, name: &[u8]) -> bool
         i += 1;
     }
     false
+}
+
+// The row that defines what row i refers to, of the first n; n where none does.
+pub fn definition_of(mem: &[u8], n: usize, i: usize) -> usize
+    requires { ⌜ (length (now mem) ≡ layoutLength) × (n ≤ rowLimit) × (i < rowLimit) ⌝ }
+    ensures { λ r. ⌜ (r ≤ n) × (rowsFrom (now (mem .entry)) (n - r) r ≡ definitionIn (textAt (now (mem .entry)) i) (rowsFrom (now (mem .entry)) n 0)) ⌝ }
+{
+    let name = string_of(mem, i);
+    let mut d = 0;
+    while d < n {
+        if is_definition_of(mem, d, name) {
+            return d;
+        }
+        d += 1;
+    }
+    d
 }
 
 // Does row number a define the name, of the first rows of a set and then the rows of another memory from `start` on?

@@ -21,7 +21,9 @@ use Rattle.view.proofs.Undone.{unit-small}
 pub use Rattle.view.proofs.Places.{in-text, value-in-text, skip-ahead, skip-within, end-ahead, end-within}
 pub use Rattle.view.proofs.Visits.{elements-next, elements-done, elements-few, left-start, left-done, left-next, keys-next, keys-done}
 pub use Rattle.view.proofs.Known.{known-none}
-pub use Rattle.view.proofs.Undone.{bytes-stop, bytes-next, string-short, past-stop, stop-in, Holds, part-holds, low-alone, spells-first}
+pub use Rattle.view.proofs.Undone.{bytes-stop, bytes-next, string-short, past-stop, stop-in, Holds, part-holds, low-alone, spells-first, read-end, read-byte, read-within}
+pub use Rattle.view.proofs.OnePass.{keyOf, own, true-turn, own-value, keys-turn, pass-less}
+pub use Rattle.view.proofs.Titled.{leftBehind, last-start, last-turn, last-end}
 
 -- every element of a list
 abbrev pub All : {A : Type 0} → (A → Type 0) → List A → Type 0

@@ -88,18 +88,18 @@ pub record Titling (t : List ℕ) (p : ℕ) (n a : Spot) (e : Entry) : Type 0 wh
   pub will-aliases : lastUnder t aliases-key a (leftBehind t e) ≡ member t p aliases-key
 
 module _ (t : List ℕ) (w : List ℕ) where
-  last-start : (p : ℕ) {e : Entry} → e ≡ entryOf t (firstKey t p) → lastUnder t w Nowhere (leftBehind t e) ≡ member t p w
+  pub last-start : (p : ℕ) {e : Entry} → e ≡ entryOf t (firstKey t p) → lastUnder t w Nowhere (leftBehind t e) ≡ member t p w
   unfolding member membersAt
   last-start p {e} h = ap (λ (s : Spot). lastUnder t w Nowhere (map (memberOf t) (keysAt t s))) (own t e (firstKey t p) h)
 
-  last-turn : {e : Entry} {k v : ℕ} → e ≡ entryOf t (keyOf e) → e ≡ Of k v → {e′ : Entry} → e′ ≡ entryOf t (keyBehind t v) → (s : Spot)
+  pub last-turn : {e : Entry} {k v : ℕ} → e ≡ entryOf t (keyOf e) → e ≡ Of k v → {e′ : Entry} → e′ ≡ entryOf t (keyBehind t v) → (s : Spot)
       → lastUnder t w (cond (same (stringAt t k) w) (At v) s) (leftBehind t e′) ≡ lastUnder t w s (leftBehind t e)
   unfolding lastUnder
   last-turn {e} {k} {v} i h {e′} d s =
       ap (λ (x : ℕ). lastUnder t w (cond (same (stringAt t k) w) (At x) s) (leftBehind t e′)) (own-value t i h)
       ∙ sym (ap (λ (l : List ℕ). lastUnder t w s (map (memberOf t) l)) (keys-turn t i h d))
 
-  last-end : {e : Entry} → e ≡ Last → (s : Spot) → s ≡ lastUnder t w s (leftBehind t e)
+  pub last-end : {e : Entry} → e ≡ Last → (s : Spot) → s ≡ lastUnder t w s (leftBehind t e)
   unfolding lastUnder
   last-end h s =
       ap (λ (l : List ℕ). lastUnder t w s (map (memberOf t) l)) (sym (keys-done t))

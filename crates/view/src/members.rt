@@ -98,7 +98,7 @@ fn member_from(text: &[u8], ends: &[u16], at: usize) -> Entry
 }
 
 // The first member of the object at `at`.
-fn first_member(text: &[u8], ends: &[u16], at: usize) -> Entry
+pub fn first_member(text: &[u8], ends: &[u16], at: usize) -> Entry
     requires { ⌜ Known (now text) (now ends) ⌝ }
     ensures { λ r. ⌜ r ≡ entryOf (now (text .entry)) (firstKey (now (text .entry)) at) ⌝ }
 {
@@ -109,7 +109,7 @@ fn first_member(text: &[u8], ends: &[u16], at: usize) -> Entry
 }
 
 // The member behind the one whose value is at `at`.
-fn next_member(text: &[u8], ends: &[u16], at: usize) -> Entry
+pub fn next_member(text: &[u8], ends: &[u16], at: usize) -> Entry
     requires { ⌜ Known (now text) (now ends) ⌝ }
     ensures { λ r. ⌜ r ≡ entryOf (now (text .entry)) (keyBehind (now (text .entry)) at) ⌝ }
 {

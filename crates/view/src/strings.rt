@@ -174,7 +174,8 @@ pub fn part_at(text: &[u8], at: usize) -> Piece
     }
 }
 
-pub(crate) fn next_byte(text: &[u8], c: Cursor) -> Step
+// The next byte of a string.
+pub fn next_byte(text: &[u8], c: Cursor) -> Step
     requires { ⌜ Within (now text) c ⌝ }
     ensures { λ r. ⌜ Reads (now (text .entry)) (leftOf (now (text .entry)) c) r ⌝ }
 {
@@ -209,7 +210,7 @@ pub(crate) fn next_byte(text: &[u8], c: Cursor) -> Step
 }
 
 // Before the first byte of the string at `at`.
-pub(crate) fn opening(text: &[u8], at: usize) -> Cursor
+pub fn opening(text: &[u8], at: usize) -> Cursor
     ensures { λ r. ⌜ (leftOf (now (text .entry)) r ≡ stringAt (now (text .entry)) at) × Within (now (text .entry)) r ⌝ }
 {
     if byte_at(text, at) == b'"' {

@@ -1,0 +1,5 @@
+mod ValueLaws
+mod MemberLaws
+mod RowLaws
+mod TableLaws
+mod FitLaws

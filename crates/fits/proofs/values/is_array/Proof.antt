@@ -1,0 +1,16 @@
+-- `fits::values::is_array` meets its contract.
+-- Assumes nothing.
+use borrow.Author.Needs.{needs}
+use Rattle.fits.specs.Values.{isArray}
+use Rattle.fits.proofs.values.is_array.Statement.{statement}
+use Rattle.fits.proofs.values.is_array.Tie as tie
+
+byte-at-requires : tie.Need-byte-at-requires
+byte-at-requires c κs = search needs
+
+returns : tie.Need-returns
+unfolding isArray
+returns c = rw (c .byte-at .ensures)
+
+pub is-array-spec : {M : Type 1} → statement M
+is-array-spec = tie.close (tie.spec byte-at-requires returns)

@@ -1,0 +1,16 @@
+-- `fits::values::is_null` meets its contract.
+-- Assumes nothing.
+use borrow.Author.Needs.{needs}
+use Rattle.fits.specs.Values.{isNull}
+use Rattle.fits.proofs.values.is_null.Statement.{statement}
+use Rattle.fits.proofs.values.is_null.Tie as tie
+
+byte-at-requires : tie.Need-byte-at-requires
+byte-at-requires c κs = search needs
+
+returns : tie.Need-returns
+unfolding isNull
+returns c = rw (c .byte-at .ensures)
+
+pub is-null-spec : {M : Type 1} → statement M
+is-null-spec = tie.close (tie.spec byte-at-requires returns)

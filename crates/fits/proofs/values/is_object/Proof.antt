@@ -1,0 +1,16 @@
+-- `fits::values::is_object` meets its contract.
+-- Assumes nothing.
+use borrow.Author.Needs.{needs}
+use Rattle.fits.specs.Values.{isObject}
+use Rattle.fits.proofs.values.is_object.Statement.{statement}
+use Rattle.fits.proofs.values.is_object.Tie as tie
+
+byte-at-requires : tie.Need-byte-at-requires
+byte-at-requires c κs = search needs
+
+returns : tie.Need-returns
+unfolding isObject
+returns c = rw (c .byte-at .ensures)
+
+pub is-object-spec : {M : Type 1} → statement M
+is-object-spec = tie.close (tie.spec byte-at-requires returns)

@@ -1,0 +1,23 @@
+-- `fits::with_middle` meets its contract: a table of zeros says nothing.
+-- Assumes nothing.
+use borrow.Author.Needs.{needs}
+use native.Mathlib.Omega.{arith}
+use Rattle.fits.proofs.TableLaws.{true-zeros}
+use Rattle.fits.proofs.with_middle.Statement.{statement}
+use Rattle.fits.proofs.with_middle.Tie as tie
+
+add-left : tie.Need-add-left
+add-left c = search needs
+
+slice-aggregate-fits-at : tie.Need-slice-aggregate-fits-at
+slice-aggregate-fits-at c = search needs
+
+fits-at-requires : tie.Need-fits-at-requires
+fits-at-requires c κs =
+    (c .before .before .before .before .pre .0, c .before .before .before .before .pre .1, c .before .before .before .before .pre .2, true-zeros _ _ _ 32768, omega arith)
+
+returns : tie.Need-returns
+returns c = search needs
+
+pub with-middle-spec : {M : Type 1} → statement M
+with-middle-spec = tie.close (tie.spec add-left slice-aggregate-fits-at fits-at-requires returns)

@@ -1,0 +1,4 @@
+pub mod Values
+pub mod Types
+pub mod Fits
+pub mod Steps
