@@ -28,7 +28,7 @@ use Rattle.view.specs.Elements.{firstElement, nextElement, elementsAt, elements
 use Rattle.view.specs.Strings.{stringAt}
 use Rattle.view.specs.Members.{firstKey, keyBehind, keysAt, Member, memberOf, membersAt, member, entryOf}
 use Rattle.view.proofs.Laws.{left-start, left-done, left-next, keys-done, keyOf, own, true-turn, keys-turn, leftBehind}
-use Rattle.fits.specs.Values.{isString, isArray, isObject, isFixed}
+use Rattle.values.specs.Values.{isString, isArray, isObject, isFixed}
 use Rattle.fits.specs.Types.{some, partsUnder, typeOf, hasDefault}
 use Rattle.fits.specs.Fits.{onValue, memberFits, fieldFits, kindFits, plainFits, reached, oneFits, anyFits, fits}
 use Rattle.fits.specs.Steps.{isNested, typeAt, partsFrom}

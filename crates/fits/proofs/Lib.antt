@@ -1,5 +1,3 @@
-mod ValueLaws
-mod MemberLaws
 mod RowLaws
 mod TableLaws
 mod FitLaws

@@ -1,4 +1,4 @@
--- When a value fits a type: the table of field defaults of the 1.12.0 specification, in document 02's words.
+-- When a value fits a type: a line for each kind, as Avro 1.12.0's table of field default values has them and document 02 says more closely.
 -- Assumes nothing.
 use Prim.Native.Nat.{ℕ, zero, suc, _^_}
 use mathlib.Core.Bool.{Bool, true, false, not, cond, _&&_, _||_}
@@ -15,10 +15,10 @@ use Rattle.row.specs.declared.kind.Kind.{Kind}
 use Rattle.row.specs.declared.kind.Kind.the-variants.{Null, Boolean, Int, Long, Float, Double, Bytes, String, Reference, Array, Map, Union, Record, Enum, Fixed, Field, Symbol, Alias, FieldAlias}
 use Rattle.resolve.specs.Kinds.{isKind}
 use Rattle.resolve.specs.Resolve.{definitionIn}
-use Rattle.fits.specs.Values.{isNull, isBoolean, isNumber, isString, isArray, isObject, isWhole, isBytes, isFixed}
+use Rattle.values.specs.Values.{isNull, isBoolean, isNumber, isString, isArray, isObject, isWhole, isBytes, isFixed}
 use Rattle.fits.specs.Types.{some, partsUnder, typeOf, hasDefault}
 
--- what a test says of the value that was found; `none` where there is no value
+-- what a test says of the value that was found, or `none` where there is no value
 unfoldable pub onValue : (ℕ → Bool) → Bool → Spot → Bool
 onValue test none (At v) = test v
 onValue test none Nowhere = none
@@ -56,6 +56,7 @@ module _ (t : List ℕ) (go : List Row → ℕ → Bool) where
   kindFits Array r rest p = isArray t p && every (go rest) (elements t p)
   kindFits Map r rest p = isObject t p && every (memberFits rest p) (membersAt t p)
   kindFits Record r rest p = isObject t p && every (fieldFits p) (partsUnder (r .depth) rest)
+  -- a union and a reference are told by others, and what is left is no type
   kindFits Union r rest p = false
   kindFits Reference r rest p = false
   kindFits Field r rest p = false
@@ -63,6 +64,7 @@ module _ (t : List ℕ) (go : List Row → ℕ → Bool) where
   kindFits Alias r rest p = false
   kindFits FieldAlias r rest p = false
 
+  -- the same for a type
   unfoldable pub plainFits : List Row → ℕ → Bool
   plainFits [] p = false
   plainFits (r ∷ rest) p = kindFits (r .kind) r rest p
@@ -76,15 +78,16 @@ module _ (rows : List Row) where
   reached (r ∷ rest) = cond (isKind Reference (r .kind)) (definitionIn (r .text) rows) (r ∷ rest)
 
   module _ (t : List ℕ) where
+    -- a type that is no union
     unfoldable pub oneFits : (List Row → ℕ → Bool) → ℕ → List Row → Bool
     oneFits go p type = plainFits t go (reached type) p
 
-    -- a union by any member, else the type itself
+    -- any type: a union by any member
     unfoldable pub anyFits : (List Row → ℕ → Bool) → List Row → ℕ → Bool
     anyFits go [] p = false
     anyFits go (r ∷ rest) p = cond (isKind Union (r .kind)) (some (oneFits go p) (partsUnder (r .depth) rest)) (oneFits go p (r ∷ rest))
 
-    -- the value at p fits a type, with so much nesting left
+    -- the value at p fits a type, with so much nesting left: the values inside have one less
     unfoldable pub fits : ℕ → List Row → ℕ → Bool
     fits zero type p = false
     fits (suc n) type p = anyFits (fits n) type p

@@ -1,4 +1,3 @@
-pub mod Values
 pub mod Types
 pub mod Fits
 pub mod Steps

@@ -1,9 +1,7 @@
 // Does a value fit a type? The value is a text of its own, the type a row of a set's memory.
 mod leaves;
-mod members;
 mod rows;
 mod table;
-mod values;
 mod walk;
 
 use ground::byte_at;

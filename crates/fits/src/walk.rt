@@ -1,22 +1,22 @@
 // A value and a type, walked together. What is inside a value is answered by the same functions; a verdict that was found is
 // noted, and none is sought twice.
 use crate::leaves::leaf;
-use crate::members::under_key;
-use crate::members::under_word;
 use crate::rows::has_default;
 use crate::rows::is_nested;
 use crate::rows::next_part;
 use crate::rows::type_row;
 use crate::table::asked;
 use crate::table::note;
-use crate::values::is_array;
-use crate::values::is_object;
 use resolve::definition_of;
 use resolve::is_kind;
 use row::Kind;
 use row::read::depth_at;
 use row::read::kind_number;
 use row::read::string_of;
+use values::is_array;
+use values::is_object;
+use values::under_key;
+use values::under_word;
 use view::Entry;
 use view::Spot;
 use view::first_element;
@@ -35,7 +35,7 @@ ghost use Rattle.row.specs.Memory.{entryAt};
 ghost use Rattle.view.specs.Known.{Known};
 ghost use Rattle.view.specs.Elements.{elements};
 ghost use Rattle.view.specs.Members.{membersAt};
-ghost use Rattle.fits.specs.Values.{isArray, isObject};
+ghost use Rattle.values.specs.Values.{isArray, isObject};
 ghost use Rattle.fits.specs.Types.{some, partsUnder};
 ghost use Rattle.fits.specs.Fits.{memberFits, fieldFits, plainFits, oneFits, anyFits};
 ghost use Rattle.fits.specs.Steps.{isNested, typeAt, fitting, Verdicts};

@@ -1,0 +1,2 @@
+mod ValueLaws
+mod MemberLaws

@@ -1,0 +1,133 @@
+// What the value at a place of a text is.
+use ground::byte_at;
+use view::Size;
+use view::Step;
+use view::next_byte;
+use view::opening;
+use view::size_literal;
+ghost use mathlib.Core.Path.{_≡_};
+ghost use Prim.Native.Nat.{_<_};
+ghost use Rattle.view.specs.Strings.{stringAt};
+ghost use Rattle.values.specs.Values.{isNull, isBoolean, isNumber, isString, isArray, isObject, upTo, isWhole, goesOn, characters, isNarrow, isBytes, isFixed};
+
+pub fn is_null(text: &[u8], at: usize) -> bool
+    ensures { λ r. ⌜ r ≡ isNull (now (text .entry)) at ⌝ }
+{
+    byte_at(text, at) == b'n'
+}
+
+pub fn is_boolean(text: &[u8], at: usize) -> bool
+    ensures { λ r. ⌜ r ≡ isBoolean (now (text .entry)) at ⌝ }
+{
+    let b = byte_at(text, at);
+    if b == b't' {
+        return true;
+    }
+    b == b'f'
+}
+
+pub fn is_number(text: &[u8], at: usize) -> bool
+    ensures { λ r. ⌜ r ≡ isNumber (now (text .entry)) at ⌝ }
+{
+    let b = byte_at(text, at);
+    if b == b'-' {
+        return true;
+    }
+    if b'0' <= b { b <= b'9' } else { false }
+}
+
+pub fn is_string(text: &[u8], at: usize) -> bool
+    ensures { λ r. ⌜ r ≡ isString (now (text .entry)) at ⌝ }
+{
+    byte_at(text, at) == b'"'
+}
+
+pub fn is_array(text: &[u8], at: usize) -> bool
+    ensures { λ r. ⌜ r ≡ isArray (now (text .entry)) at ⌝ }
+{
+    byte_at(text, at) == b'['
+}
+
+pub fn is_object(text: &[u8], at: usize) -> bool
+    ensures { λ r. ⌜ r ≡ isObject (now (text .entry)) at ⌝ }
+{
+    byte_at(text, at) == b'{'
+}
+
+fn up_to(most: u64, size: Size) -> bool
+    ensures { λ r. ⌜ r ≡ upTo most size ⌝ }
+{
+    match size {
+        Size::Value(v) => v <= most,
+        Size::NoSize => false,
+    }
+}
+
+// A whole number from -half up to half - 1.
+pub fn is_whole(text: &[u8], at: usize, half: u64) -> bool
+    requires { ⌜ 0 < half ⌝ }
+    ensures { λ r. ⌜ r ≡ isWhole half (now (text .entry)) at ⌝ }
+{
+    if byte_at(text, at) == b'-' {
+        return up_to(half, size_literal(text, at + 1));
+    }
+    up_to(half - 1, size_literal(text, at))
+}
+
+fn goes_on(b: u8) -> bool
+    ensures { λ r. ⌜ r ≡ goesOn b ⌝ }
+{
+    if b < 0x80 { false } else { b < 0xc0 }
+}
+
+// Is each character of the string at `at` one up to U+00FF?
+fn is_narrow(text: &[u8], at: usize) -> bool
+    ensures { λ r. ⌜ r ≡ isNarrow (stringAt (now (text .entry)) at) ⌝ }
+{
+    let mut c = opening(text, at);
+    loop {
+        let Step::Byte(b, next) = next_byte(text, c) else {
+            return true;
+        };
+        if 0xc4 <= b {
+            return false;
+        }
+        c = next;
+    }
+}
+
+// How many characters the string at `at` has.
+fn characters(text: &[u8], at: usize) -> usize
+    ensures { λ r. ⌜ r ≡ characters (stringAt (now (text .entry)) at) ⌝ }
+{
+    let mut c = opening(text, at);
+    let mut n: usize = 0;
+    loop {
+        let Step::Byte(b, next) = next_byte(text, c) else {
+            return n;
+        };
+        c = next;
+        if goes_on(b) {
+            continue;
+        }
+        n += 1;
+    }
+}
+
+pub fn is_bytes(text: &[u8], at: usize) -> bool
+    ensures { λ r. ⌜ r ≡ isBytes (now (text .entry)) at ⌝ }
+{
+    if is_string(text, at) {
+        return is_narrow(text, at);
+    }
+    false
+}
+
+pub fn is_fixed(text: &[u8], at: usize, size: u64) -> bool
+    ensures { λ r. ⌜ r ≡ isFixed size (now (text .entry)) at ⌝ }
+{
+    if is_bytes(text, at) {
+        return characters(text, at) as u64 == size;
+    }
+    false
+}
