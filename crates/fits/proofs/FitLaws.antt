@@ -7,18 +7,16 @@ use Prim.Native.Nat.{ℕ, zero, suc, _+_, _-_, _<_, _≤_}
 use native.Mathlib.Numerals.{sub-one}
 use native.Mathlib.Omega.{arith}
 use lib.ListN.{length}
-use borrow.Author.Tests.{eqb-true}
 use Rattle.ground.proofs.Laws.{never}
 use Rattle.name.specs.Name.{every}
-use Rattle.row.specs.Kinds.{kindNumber, kindOf}
 use Rattle.row.specs.Rows.{Row}
 use Rattle.row.specs.Sets.{rowsFrom}
 use Rattle.row.specs.Memory.{entryAt, textAt, rowAt}
 use Rattle.row.specs.declared.kind.Kind.{Kind}
 use Rattle.row.specs.declared.kind.Kind.the-variants.{Reference, Array, Map, Union, Record, Field}
-use Rattle.row.proofs.RowLaws.{kind-back}
 use Rattle.resolve.specs.Kinds.{isKind}
 use Rattle.resolve.specs.Resolve.{definitionIn}
+use Rattle.resolve.proofs.KindLaws.{kind-is}
 use Rattle.resolve.proofs.MemoryLaws.{rows-next, rows-end}
 use Rattle.view.specs.declared.space.Spot.{Spot}
 use Rattle.view.specs.declared.space.Spot.the-variants.{At, Nowhere}
@@ -28,8 +26,9 @@ use Rattle.view.specs.Elements.{firstElement, nextElement, elementsAt, elements
 use Rattle.view.specs.Strings.{stringAt}
 use Rattle.view.specs.Members.{firstKey, keyBehind, keysAt, Member, memberOf, membersAt, member, entryOf}
 use Rattle.view.proofs.Laws.{left-start, left-done, left-next, keys-done, keyOf, own, true-turn, keys-turn, leftBehind}
-use Rattle.values.specs.Values.{isString, isArray, isObject, isFixed}
-use Rattle.fits.specs.Types.{some, partsUnder, typeOf, hasDefault}
+use Rattle.values.specs.Values.{isArray, isObject, isFixed}
+use Rattle.resolve.specs.Rules.{some}
+use Rattle.fits.specs.Types.{partsUnder, typeOf, hasDefault}
 use Rattle.fits.specs.Fits.{onValue, memberFits, fieldFits, kindFits, plainFits, reached, oneFits, anyFits, fits}
 use Rattle.fits.specs.Steps.{isNested, typeAt, partsFrom}
 
@@ -51,13 +50,9 @@ no-leaf e f g h = never (sym h ∙ ap isNested (sym e ∙ f) ∙ g)
 pub sized : (t : List ℕ) (p : ℕ) {x : Bool} {s size : ℕ} → s ≡ size → x ≡ isFixed s t p → x ≡ isFixed size t p
 sized t p e h = rw (← e) h
 
--- an enum
-module _ (t : List ℕ) (p : ℕ) (test : List Row → Bool) (rows : List Row) {a : Bool} (e : a ≡ isString t p) where
-  pub enum-string : a ≡ true → {d depth : ℕ} → d ≡ depth → {x : Bool} → x ≡ some test (partsUnder d rows) → x ≡ (isString t p && some test (partsUnder depth rows))
-  enum-string f g h = rw (← e, f, ← g) h
-
-  pub enum-none : a ≡ false → (depth : ℕ) → false ≡ (isString t p && some test (partsUnder depth rows))
-  enum-none f depth = rw (← e, f)
+-- an enum, whose depth is read
+pub enum-depth : (test : List Row → Bool) (rows : List Row) {d depth : ℕ} → d ≡ depth → {x : Bool} → x ≡ some test (partsUnder d rows) → x ≡ some test (partsUnder depth rows)
+enum-depth test rows g h = rw (← g) h
 
 -- ---- two tests, one after the other
 
@@ -133,10 +128,6 @@ module _ (t : List ℕ) (go : List Row → ℕ → Bool) (type : List Row) (p k 
   member-value f g = rw (← e, f) g
 
 -- ---- rows in memory
-
-kind-is : (a k : Kind) → isKind a k ≡ true → k ≡ a
-unfolding isKind
-kind-is a k e = sym (kind-back k) ∙ ap kindOf (eqb-true (kindNumber k) (kindNumber a) e) ∙ kind-back a
 
 module _ (m : List ℕ) (n : ℕ) (t : List ℕ) (go : List Row → ℕ → Bool) (p row : ℕ) where
   abbrev kind : Kind

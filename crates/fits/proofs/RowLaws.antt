@@ -13,7 +13,8 @@ use Rattle.row.specs.Memory.{entryAt, textAt, rowAt}
 use Rattle.row.specs.declared.kind.Kind.the-variants.{Symbol, FieldAlias}
 use Rattle.resolve.specs.Kinds.{isKind}
 use Rattle.resolve.proofs.MemoryLaws.{rows-next, rows-end}
-use Rattle.fits.specs.Types.{some, partsUnder, typeOf}
+use Rattle.resolve.specs.Rules.{some}
+use Rattle.fits.specs.Types.{partsUnder, typeOf}
 use Rattle.fits.specs.Fits.{isSymbol}
 use Rattle.fits.specs.Steps.{typeAt, partsFrom}
 

@@ -16,7 +16,8 @@ use Rattle.row.specs.declared.kind.Kind.the-variants.{Null, Boolean, Int, Long,
 use Rattle.resolve.specs.Kinds.{isKind}
 use Rattle.resolve.specs.Resolve.{definitionIn}
 use Rattle.values.specs.Values.{isNull, isBoolean, isNumber, isString, isArray, isObject, isWhole, isBytes, isFixed}
-use Rattle.fits.specs.Types.{some, partsUnder, typeOf, hasDefault}
+use Rattle.resolve.specs.Rules.{some}
+use Rattle.fits.specs.Types.{partsUnder, typeOf, hasDefault}
 
 -- what a test says of the value that was found, or `none` where there is no value
 unfoldable pub onValue : (ℕ → Bool) → Bool → Spot → Bool

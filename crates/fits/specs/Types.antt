@@ -1,18 +1,13 @@
 -- Types as rows: a type is its own row and all rows behind it.
 -- Assumes nothing.
 use Prim.Native.Nat.{ℕ, _+_}
-use mathlib.Core.Bool.{Bool, false, not, cond, _||_}
+use mathlib.Core.Bool.{Bool, not, cond}
 use mathlib.Core.List.{List, [], _∷_}
 use lib.Dec.{eqb, leb}
 use Rattle.name.specs.Name.{isEmpty}
 use Rattle.row.specs.Rows.{Row}
 use Rattle.row.specs.declared.kind.Kind.the-variants.{FieldAlias}
 use Rattle.resolve.specs.Kinds.{isKind}
-
--- is the test kept by one of them?
-unfoldable pub some : {A : Type 0} → (A → Bool) → List A → Bool
-some test [] = false
-some test (x ∷ xs) = test x || some test xs
 
 -- of the rows behind a row of depth d, from each on that stands directly under it
 unfoldable pub partsUnder : ℕ → List Row → List (List Row)

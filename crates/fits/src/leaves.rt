@@ -22,7 +22,8 @@ ghost use Rattle.row.specs.Memory.{entryAt, rowAt};
 ghost use Rattle.view.specs.Known.{Known};
 ghost use Rattle.view.specs.Strings.{stringAt};
 ghost use Rattle.values.specs.Values.{isString};
-ghost use Rattle.fits.specs.Types.{some, partsUnder};
+ghost use Rattle.resolve.specs.Rules.{some};
+ghost use Rattle.fits.specs.Types.{partsUnder};
 ghost use Rattle.fits.specs.Fits.{isSymbol, plainFits};
 ghost use Rattle.fits.specs.Steps.{isNested, typeAt};
 

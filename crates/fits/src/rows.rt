@@ -15,7 +15,8 @@ ghost use Rattle.row.specs.Memory.{rowAt};
 ghost use Rattle.row.specs.declared.kind.Kind.{Kind};
 ghost use Rattle.view.specs.Known.{Known};
 ghost use Rattle.view.specs.Strings.{stringAt};
-ghost use Rattle.fits.specs.Types.{some, partsUnder, typeOf, hasDefault};
+ghost use Rattle.resolve.specs.Rules.{some};
+ghost use Rattle.fits.specs.Types.{partsUnder, typeOf, hasDefault};
 ghost use Rattle.fits.specs.Fits.{isSymbol};
 ghost use Rattle.fits.specs.Steps.{isNested, typeAt, partsFrom};
 

@@ -36,7 +36,8 @@ ghost use Rattle.view.specs.Known.{Known};
 ghost use Rattle.view.specs.Elements.{elements};
 ghost use Rattle.view.specs.Members.{membersAt};
 ghost use Rattle.values.specs.Values.{isArray, isObject};
-ghost use Rattle.fits.specs.Types.{some, partsUnder};
+ghost use Rattle.resolve.specs.Rules.{some};
+ghost use Rattle.fits.specs.Types.{partsUnder};
 ghost use Rattle.fits.specs.Fits.{memberFits, fieldFits, plainFits, oneFits, anyFits};
 ghost use Rattle.fits.specs.Steps.{isNested, typeAt, fitting, Verdicts};
 

@@ -4,25 +4,19 @@ use mathlib.Core.Path.{_≡_, refl, sym, ap, _∙_}
 use mathlib.Core.Bool.{Bool, true, false, not, cond, _&&_, _||_}
 use mathlib.Core.List.{List, [], _∷_, _++_}
 use Prim.Native.Nat.{ℕ}
-use borrow.Author.Tests.{eqb-true, not-true}
+use borrow.Author.Tests.{not-true}
 use Rattle.ground.specs.Bytes.{same}
 use Rattle.ground.specs.Ascii.{ascii}
 use Rattle.ground.proofs.Laws.{never, and-true}
 use Rattle.name.specs.Name.{every, isEmpty}
-use Rattle.row.specs.Kinds.{kindNumber}
 use Rattle.row.specs.Rows.{Row}
 use Rattle.row.specs.declared.kind.Kind.{Kind}
 use Rattle.row.specs.declared.kind.Kind.the-variants.{Null, Boolean, Int, Long, Float, Double, Bytes, String, Reference, Array, Map, Fixed, Field, Alias, FieldAlias}
-use Rattle.row.proofs.RowLaws.{one-kind}
 use Rattle.form.specs.Forms.{wordKind}
 use Rattle.resolve.specs.Kinds.{isKind, isPrimitive, isDefinition, isNamed, isSchema, isAliasOf, hasOne, isPartOf, past, bodyFits, partsFit}
 use Rattle.resolve.specs.Rules.{goodText, clash}
+use Rattle.resolve.proofs.KindLaws.{kind-is}
 use Rattle.kept.proofs.Lists.{past-front, every-past}
-
--- what is of a kind is of that kind
-pub kind-is : (j k : Kind) → isKind j k ≡ true → k ≡ j
-unfolding isKind
-kind-is j k e = one-kind k j (eqb-true (kindNumber k) (kindNumber j) e)
 
 -- a kind that passes a test is none that fails it
 pub kind-not : (test : Kind → Bool) (j k : Kind) → test j ≡ false → test k ≡ true → isKind j k ≡ false

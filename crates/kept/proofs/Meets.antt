@@ -20,7 +20,8 @@ use Rattle.resolve.specs.Kinds.{isKind, isDefinition, isNamed, isSchema, isPrim
 use Rattle.resolve.specs.Rules.{isAt, isFieldName, takesName, sameSymbol, sameSchema, sameMember}
 use Rattle.kept.proofs.Lists.{fails}
 use Rattle.kept.proofs.Forest.{Top}
-use Rattle.kept.proofs.Fits.{kind-is, kind-not}
+use Rattle.resolve.proofs.KindLaws.{kind-is}
+use Rattle.kept.proofs.Fits.{kind-not}
 
 -- ---- tests
 

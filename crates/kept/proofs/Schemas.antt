@@ -38,7 +38,8 @@ use Rattle.kept.proofs.Forest.{Rows, plain-strings, good-row, rows-none
 use Rattle.kept.proofs.Passed.{after-read, rows-read, both-read, spot-read, read-same}
 use Rattle.kept.proofs.Numbers.{Noted, noted-plain, note-good, numbers-good, plain-numbers}
 use Rattle.kept.proofs.Texts.{reference-named, reference-text, definition-free, own-namespace, free-text, word-within}
-use Rattle.kept.proofs.Fits.{kind-is, primitive-plain, unnamed-fixed, parts-fit, definition-alias, Single}
+use Rattle.resolve.proofs.KindLaws.{kind-is}
+use Rattle.kept.proofs.Fits.{primitive-plain, unnamed-fixed, parts-fit, definition-alias, Single}
 use Rattle.kept.proofs.Meets.{rowHead, head-named, head-unnamed}
 use Rattle.kept.proofs.Leaves.{aliases-rows, aliases-kind}
 

@@ -8,6 +8,7 @@ use borrow.Author.Tests.{eqb-true, ne-eqb}
 use Rattle.row.specs.Kinds.{kindNumber}
 use Rattle.row.specs.declared.kind.Kind.{Kind}
 use Rattle.row.specs.declared.kind.Kind.the-variants.{Null, Boolean, Int, Long, Float, Double, Bytes, String, Reference, Array, Map, Union, Record, Enum, Fixed, Field, Symbol, Alias, FieldAlias}
+use Rattle.row.proofs.RowLaws.{one-kind}
 use Rattle.resolve.specs.Kinds.{isKind, isPrimitive, isDefinition, isNamed, isSchema}
 
 -- the numbers of schemas come before that of a field
@@ -32,6 +33,11 @@ schema-number Field = refl
 schema-number Symbol = refl
 schema-number Alias = refl
 schema-number FieldAlias = refl
+
+-- what is of a kind is of that kind
+pub kind-is : (j k : Kind) → isKind j k ≡ true → k ≡ j
+unfolding isKind
+kind-is j k e = one-kind k j (eqb-true (kindNumber k) (kindNumber j) e)
 
 pub definition-reference : (k : Kind) → isDefinition k ≡ true → isKind Reference k ≡ false
 unfolding isDefinition isKind

@@ -103,9 +103,10 @@ clash kind d a b =
     (cond (isKind Union kind) (sameMember d a b)
     false))
 
-unfoldable pub some : (Row → Bool) → List Row → Bool
+-- is a test kept by one of them?
+unfoldable pub some : {A : Type 0} → (A → Bool) → List A → Bool
 some test [] = false
-some test (r ∷ rows) = test r || some test rows
+some test (x ∷ xs) = test x || some test xs
 
 -- no row meets a later one that it may not meet
 unfoldable pub noTwo : (Row → Row → Bool) → List Row → Bool

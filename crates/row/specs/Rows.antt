@@ -26,6 +26,7 @@ pub record Row : Type 0 where
   pub precision : ℕ
   pub scale : ℕ
 
+-- a row by its numbers, its own string and its default
 abbrev pub withDefault : Entry → List ℕ → List ℕ → Row
 withDefault e text default = record {
   kind = e .kind;
@@ -43,7 +44,7 @@ withDefault e text default = record {
 abbrev pub rowOf : Entry → List ℕ → Row
 rowOf e text = withDefault e text []
 
--- its strings, one behind the other
+-- the strings of a row, one behind the other
 unfoldable pub stringsOf : Row → List ℕ
 stringsOf r = r .text ++ r .default
 

@@ -1,2 +1,3 @@
 mod ValueLaws
 mod MemberLaws
+pub mod CodePoints

@@ -1,6 +1,6 @@
 -- What a value is by its first byte, whole numbers, and the characters of a string, as the code's tests have them.
 -- Assumes nothing.
-use mathlib.Core.Path.{_≡_, sym, ap, _∙_}
+use mathlib.Core.Path.{_≡_, refl, sym, ap, _∙_}
 use mathlib.Core.Bool.{Bool, true, false, cond}
 use mathlib.Core.List.{List, [], _∷_}
 use Prim.Native.Nat.{ℕ, suc, _+_, _-_, _<_, _≤_}
@@ -17,6 +17,7 @@ use Rattle.view.specs.declared.strings.Cursor.{Cursor}
 use Rattle.view.specs.declared.strings.Step.{Step}
 use Rattle.view.specs.declared.strings.Step.the-variants.{Byte, End}
 use Rattle.view.proofs.Laws.{string-short, read-end, read-byte}
+use Rattle.values.specs.Steps.{narrowSize}
 use Rattle.values.specs.Values.{isBoolean, isNumber, isString, upTo, isWhole, goesOn, characters, isNarrow, isBytes, isFixed}
 
 -- ---- by the first byte
@@ -120,20 +121,53 @@ characters-bound t p = let a = characters-few (stringAt t p) in let b = string-s
 
 -- ---- strings for bytes
 
-module _ (t : List ℕ) (p : ℕ) {a : Bool} where
-  pub bytes-string : a ≡ isString t p → a ≡ true → {x : Bool} → x ≡ isNarrow (stringAt t p) → x ≡ isBytes t p
+pub narrow-all : (s : List ℕ) (n : ℕ) → true ≡ isNarrow s → n ≡ characters s → Value n ≡ narrowSize s
+unfolding narrowSize
+narrow-all s n e f = rw (← e, f)
+
+pub narrow-not : (s : List ℕ) → false ≡ isNarrow s → NoSize ≡ narrowSize s
+unfolding narrowSize
+narrow-not s e = rw (← e)
+
+-- what the size tells of the string
+is-narrow : (s : List ℕ) (n : ℕ) → Value n ≡ narrowSize s → (isNarrow s ≡ true) × (n ≡ characters s)
+unfolding narrowSize
+is-narrow s n e = go (isNarrow s) e
+  where
+    go : (b : Bool) → Value n ≡ cond b (Value (characters s)) NoSize → (b ≡ true) × (n ≡ characters s)
+    go true e = (refl, cc)
+    go false e = let z : _≡_ {A = ℕ} 0 1 = cc in absurd (omega arith)
+
+is-wide : (s : List ℕ) → NoSize ≡ narrowSize s → isNarrow s ≡ false
+unfolding narrowSize
+is-wide s e = go (isNarrow s) e
+  where
+    go : (b : Bool) → NoSize ≡ cond b (Value (characters s)) NoSize → b ≡ false
+    go true e = cc
+    go false e = refl
+
+module _ (t : List ℕ) (p : ℕ) {a : Bool} (e : a ≡ isString t p) where
+  pub bytes-none : a ≡ false → false ≡ isBytes t p
   unfolding isBytes
-  bytes-string e f g = rw (← e, f) g
+  bytes-none f = rw (← e, f)
 
-  pub bytes-none : a ≡ isString t p → a ≡ false → false ≡ isBytes t p
-  unfolding isBytes
-  bytes-none e f = rw (← e, f)
+  pub fixed-none : a ≡ false → (size : ℕ) → false ≡ isFixed size t p
+  unfolding isFixed
+  fixed-none f size = rw (← bytes-none f)
 
-  module _ (size : ℕ) (e : a ≡ isBytes t p) where
-    pub fixed-bytes : a ≡ true → {n : ℕ} → n ≡ characters (stringAt t p) → eqb n size ≡ isFixed size t p
+  module _ (f : a ≡ true) {s : Size} (h : s ≡ narrowSize (stringAt t p)) where
+    pub bytes-narrow : {n : ℕ} → s ≡ Value n → true ≡ isBytes t p
+    unfolding isBytes
+    bytes-narrow {n} g = rw (← e, f, is-narrow (stringAt t p) n (sym g ∙ h) .0)
+
+    pub bytes-wide : s ≡ NoSize → false ≡ isBytes t p
+    unfolding isBytes
+    bytes-wide g = rw (← e, f, is-wide (stringAt t p) (sym g ∙ h))
+
+    pub fixed-narrow : {n : ℕ} → s ≡ Value n → (size : ℕ) → eqb n size ≡ isFixed size t p
     unfolding isFixed
-    fixed-bytes f g = rw (← e, f, ← g)
+    fixed-narrow {n} g size = rw (← bytes-narrow g, is-narrow (stringAt t p) n (sym g ∙ h) .1)
 
-    pub fixed-none : a ≡ false → false ≡ isFixed size t p
+    pub fixed-wide : s ≡ NoSize → (size : ℕ) → false ≡ isFixed size t p
     unfolding isFixed
-    fixed-none f = rw (← e, f)
+    fixed-wide g size = rw (← bytes-wide g)

@@ -8,7 +8,8 @@ use view::size_literal;
 ghost use mathlib.Core.Path.{_≡_};
 ghost use Prim.Native.Nat.{_<_};
 ghost use Rattle.view.specs.Strings.{stringAt};
-ghost use Rattle.values.specs.Values.{isNull, isBoolean, isNumber, isString, isArray, isObject, upTo, isWhole, goesOn, characters, isNarrow, isBytes, isFixed};
+ghost use Rattle.values.specs.Values.{isNull, isBoolean, isNumber, isString, isArray, isObject, upTo, isWhole, goesOn, isBytes, isFixed};
+ghost use Rattle.values.specs.Steps.{narrowSize};
 
 pub fn is_null(text: &[u8], at: usize) -> bool
     ensures { λ r. ⌜ r ≡ isNull (now (text .entry)) at ⌝ }
@@ -80,32 +81,19 @@ fn goes_on(b: u8) -> bool
     if b < 0x80 { false } else { b < 0xc0 }
 }
 
-// Is each character of the string at `at` one up to U+00FF?
-fn is_narrow(text: &[u8], at: usize) -> bool
-    ensures { λ r. ⌜ r ≡ isNarrow (stringAt (now (text .entry)) at) ⌝ }
+// How many characters the string at `at` has, if each is one up to U+00FF.
+fn narrow_size(text: &[u8], at: usize) -> Size
+    ensures { λ r. ⌜ r ≡ narrowSize (stringAt (now (text .entry)) at) ⌝ }
 {
     let mut c = opening(text, at);
+    let mut n: u64 = 0;
     loop {
         let Step::Byte(b, next) = next_byte(text, c) else {
-            return true;
+            return Size::Value(n);
         };
         if 0xc4 <= b {
-            return false;
+            return Size::NoSize;
         }
-        c = next;
-    }
-}
-
-// How many characters the string at `at` has.
-fn characters(text: &[u8], at: usize) -> usize
-    ensures { λ r. ⌜ r ≡ characters (stringAt (now (text .entry)) at) ⌝ }
-{
-    let mut c = opening(text, at);
-    let mut n: usize = 0;
-    loop {
-        let Step::Byte(b, next) = next_byte(text, c) else {
-            return n;
-        };
         c = next;
         if goes_on(b) {
             continue;
@@ -118,7 +106,10 @@ pub fn is_bytes(text: &[u8], at: usize) -> bool
     ensures { λ r. ⌜ r ≡ isBytes (now (text .entry)) at ⌝ }
 {
     if is_string(text, at) {
-        return is_narrow(text, at);
+        return match narrow_size(text, at) {
+            Size::Value(_) => true,
+            Size::NoSize => false,
+        };
     }
     false
 }
@@ -126,8 +117,11 @@ pub fn is_bytes(text: &[u8], at: usize) -> bool
 pub fn is_fixed(text: &[u8], at: usize, size: u64) -> bool
     ensures { λ r. ⌜ r ≡ isFixed size (now (text .entry)) at ⌝ }
 {
-    if is_bytes(text, at) {
-        return characters(text, at) as u64 == size;
+    if is_string(text, at) {
+        return match narrow_size(text, at) {
+            Size::Value(n) => n == size,
+            Size::NoSize => false,
+        };
     }
     false
 }

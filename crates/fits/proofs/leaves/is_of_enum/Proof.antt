@@ -1,7 +1,7 @@
 -- `fits::leaves::is_of_enum` meets its contract.
 -- Assumes nothing.
 use borrow.Author.Needs.{needs}
-use Rattle.fits.proofs.FitLaws.{enum-string, enum-none}
+use Rattle.fits.proofs.FitLaws.{enum-depth, then-true, then-false}
 use Rattle.fits.proofs.leaves.is_of_enum.Statement.{statement}
 use Rattle.fits.proofs.leaves.is_of_enum.Tie as tie
 
@@ -19,10 +19,10 @@ has-symbol-requires c κs = search needs
 
 returns : tie.Need-returns
 returns c =
-    enum-string _ _ _ _ (c .before .before .before .is-string .ensures) (c .before .before .if1 .taken) (c .before .depth-at .ensures .0) (c .has-symbol .ensures)
+    then-true (c .before .before .before .is-string .ensures) (c .before .before .if1 .taken) (enum-depth _ _ (c .before .depth-at .ensures .0) (c .has-symbol .ensures))
 
 returns-2 : tie.Need-returns-2
-returns-2 c = enum-none _ _ _ _ (c .before .is-string .ensures) (c .if1 .left) _
+returns-2 c = then-false (c .before .is-string .ensures) (c .if1 .left) _
 
 pub is-of-enum-spec : {M : Type 1} → statement M
 is-of-enum-spec =

@@ -4,7 +4,8 @@ use Prim.Native.Nat.{_-_, _≤_}
 use mathlib.Core.Path.{_≡_, ap}
 use borrow.Author.Needs.{needs}
 use Rattle.fits.proofs.RowLaws.{some-end, some-found, some-on}
-use Rattle.fits.specs.Types.{some, partsUnder}
+use Rattle.resolve.specs.Rules.{some}
+use Rattle.fits.specs.Types.{partsUnder}
 use Rattle.fits.specs.Fits.{isSymbol}
 use Rattle.fits.specs.Steps.{typeAt, partsFrom}
 use Rattle.view.specs.Strings.{stringAt}

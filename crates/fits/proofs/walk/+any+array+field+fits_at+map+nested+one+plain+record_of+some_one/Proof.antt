@@ -9,7 +9,8 @@ use Rattle.fits.proofs.TableLaws.{true-no, true-yes, noted-no, noted-ye
 use Rattle.fits.proofs.RowLaws.{some-end, some-found, some-on, every-end, every-bad, every-on}
 use Rattle.fits.proofs.FitLaws.{then-true, then-false, each-start, each-done, each-bad, each-on, each-less, Visiting, visit-start, visit-end, visit-bad, visit-on, member-none, member-value, plain-none, any-none, field-other, field-value, field-default, nested-array, nested-map, nested-record, one-reference, one-self, any-union, any-one, some-start, every-start, fits-none, fits-more}
 use Rattle.view.proofs.Laws.{keyOf, pass-less}
-use Rattle.fits.specs.Types.{some, partsUnder}
+use Rattle.resolve.specs.Rules.{some}
+use Rattle.fits.specs.Types.{partsUnder}
 use Rattle.fits.specs.Fits.{memberFits, fieldFits, oneFits}
 use Rattle.fits.specs.Steps.{typeAt, partsFrom, fitting, Verdicts}
 use Rattle.view.specs.Elements.{elementsAt, elements}
