@@ -1,12 +1,14 @@
 -- Two refusals with one number are one refusal, and two answers with the same numbers are one answer.
 -- Assumes nothing.
 use mathlib.Core.Path.{_≡_, refl, sym, ap, _∙_}
+use mathlib.Core.Bool.{cond}
 use mathlib.Core.List.{List, [], _∷_}
 use Prim.Native.Nat.{ℕ, _-_}
 use native.Mathlib.Omega.{arith}
+use lib.Dec.{eqb}
 use lib.ListN.{getD}
 use Rattle.answer.specs.declared.refusal.Why.{Why}
-use Rattle.answer.specs.declared.refusal.Why.the-variants.{TextTooLong, NotJson, NestedTooDeep, NotASchema, TypeMissing, NameMissing, NotAName, Reserved, StringTooLong, FieldsMissing, FieldNameTaken, SymbolsMissing, SymbolNotAString, SymbolTwice, DefaultNotAString, DefaultNotASymbol, SizeMissing, NotASize, UnionRuleBroken, NotWellFormed, NoSuchPlace, TooManyDeclarations, TooManyRows, TooManyStringBytes, DefinedAlready, ReferenceUnknown, ItemsMissing, ValuesMissing, NoRoom}
+use Rattle.answer.specs.declared.refusal.Why.the-variants.{TextTooLong, NotJson, NestedTooDeep, NotASchema, TypeMissing, NameMissing, NotAName, Reserved, StringTooLong, FieldsMissing, FieldNameTaken, SymbolsMissing, SymbolNotAString, SymbolTwice, DefaultNotAString, DefaultNotASymbol, SizeMissing, NotASize, UnionRuleBroken, NotWellFormed, NoSuchPlace, TooManyDeclarations, TooManyRows, TooManyStringBytes, DefinedAlready, ReferenceUnknown, ItemsMissing, ValuesMissing, NoRoom, DefaultDoesNotFit, DefaultTooLong}
 use Rattle.answer.specs.declared.counts.Counts.{Counts}
 use Rattle.answer.specs.declared.refusal.Refusal.{Refusal}
 use Rattle.answer.specs.declared.numbers.Numbers.{Numbers}
@@ -15,7 +17,7 @@ use Rattle.answer.specs.declared.Answer.the-variants.{Done, Refused}
 use Rattle.answer.specs.Numbers.{numberOf}
 use Rattle.answer.specs.Answers.{accepted, ofCounts, ofRefusal, numbersOf}
 
--- the cases in the order of their numbers, and the one that has a number
+-- the cases from 1 on in the order of their numbers, and the one that has a number
 cases : List Why
 cases =
     TextTooLong
@@ -50,7 +52,7 @@ cases =
     ∷ []
 
 caseOf : ℕ → Why
-caseOf n = getD cases (n - 1) NoRoom
+caseOf n = cond (eqb n 47) DefaultDoesNotFit (cond (eqb n 48) DefaultTooLong (getD cases (n - 1) NoRoom))
 
 case-of-number : (w : Why) → caseOf (numberOf w) ≡ w
 unfolding cases caseOf
@@ -83,6 +85,8 @@ case-of-number ReferenceUnknown = refl
 case-of-number ItemsMissing = refl
 case-of-number ValuesMissing = refl
 case-of-number NoRoom = refl
+case-of-number DefaultDoesNotFit = refl
+case-of-number DefaultTooLong = refl
 
 pub one-case : (v w : Why) → numberOf v ≡ numberOf w → v ≡ w
 one-case v w e = sym (case-of-number v) ∙ ap caseOf e ∙ case-of-number w

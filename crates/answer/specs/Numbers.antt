@@ -1,8 +1,8 @@
--- The number that document 01 gives to each refusal.
+-- The number that document 01, and for a request document 02, gives to each refusal.
 -- Assumes nothing.
 use Prim.Native.Nat.{ℕ}
 use Rattle.answer.specs.declared.refusal.Why.{Why}
-use Rattle.answer.specs.declared.refusal.Why.the-variants.{TextTooLong, NotJson, NestedTooDeep, NotASchema, TypeMissing, NameMissing, NotAName, Reserved, StringTooLong, FieldsMissing, FieldNameTaken, SymbolsMissing, SymbolNotAString, SymbolTwice, DefaultNotAString, DefaultNotASymbol, SizeMissing, NotASize, UnionRuleBroken, NotWellFormed, NoSuchPlace, TooManyDeclarations, TooManyRows, TooManyStringBytes, DefinedAlready, ReferenceUnknown, ItemsMissing, ValuesMissing, NoRoom}
+use Rattle.answer.specs.declared.refusal.Why.the-variants.{TextTooLong, NotJson, NestedTooDeep, NotASchema, TypeMissing, NameMissing, NotAName, Reserved, StringTooLong, FieldsMissing, FieldNameTaken, SymbolsMissing, SymbolNotAString, SymbolTwice, DefaultNotAString, DefaultNotASymbol, SizeMissing, NotASize, UnionRuleBroken, NotWellFormed, NoSuchPlace, TooManyDeclarations, TooManyRows, TooManyStringBytes, DefinedAlready, ReferenceUnknown, ItemsMissing, ValuesMissing, NoRoom, DefaultDoesNotFit, DefaultTooLong}
 
 abbrev pub numberOf : Why → ℕ
 numberOf TextTooLong = 1
@@ -34,3 +34,5 @@ numberOf ReferenceUnknown = 26
 numberOf ItemsMissing = 27
 numberOf ValuesMissing = 28
 numberOf NoRoom = 29
+numberOf DefaultDoesNotFit = 47
+numberOf DefaultTooLong = 48

@@ -3,7 +3,7 @@ ghost use mathlib.Core.Path.{_≡_};
 ghost use Rattle.answer.specs.Numbers.{numberOf};
 ghost use Rattle.answer.specs.Places.{placed};
 
-// What is wrong. The order is that of 01's table "Numbers returned".
+// What is wrong. The order is that of 01's table "Numbers returned" and of 02's behind it.
 pub enum Why {
     TextTooLong,
     NotJson,
@@ -34,6 +34,8 @@ pub enum Why {
     ItemsMissing,
     ValuesMissing,
     NoRoom,
+    DefaultDoesNotFit,
+    DefaultTooLong,
 }
 
 impl Why {
@@ -71,6 +73,8 @@ impl Why {
             Why::ItemsMissing => 27,
             Why::ValuesMissing => 28,
             Why::NoRoom => 29,
+            Why::DefaultDoesNotFit => 47,
+            Why::DefaultTooLong => 48,
         }
     }
 }

@@ -1,3 +1,4 @@
 pub mod Types
 pub mod Fits
+pub mod Misfits
 pub mod Steps

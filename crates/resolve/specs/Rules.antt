@@ -1,14 +1,17 @@
 -- The rules that the rows of a declaration keep: strings and numbers, one preorder tree, and 01's 11, 14 and 19.
 -- Assumes nothing.
-use Prim.Native.Nat.{ℕ, _+_, _^_}
+use Prim.Native.Nat.{ℕ, _+_, _-_, _^_}
 use mathlib.Core.Bool.{Bool, true, false, not, cond, _&&_, _||_}
 use mathlib.Core.List.{List, [], _∷_}
 use lib.Dec.{eqb, leb, ltb}
-use Rattle.ground.specs.Bytes.{same}
+use lib.ListN.{length}
+use Rattle.ground.specs.Bytes.{byteAt, same}
 use Rattle.decimals.specs.Limits.{limitOf}
 use Rattle.name.specs.Name.{isEmpty, isSimple, isDotted, isReserved}
 use Rattle.name.specs.Full.{isShort}
-use Rattle.json.specs.Json.{longest}
+use Rattle.json.specs.Json.{longest, isSpace, scanned}
+use Rattle.json.specs.declared.verdict.Scan.{Scan}
+use Rattle.json.specs.declared.verdict.Scan.the-variants.{Whole, Bad}
 use Rattle.row.specs.Rows.{Row}
 use Rattle.row.specs.declared.kind.Kind.{Kind}
 use Rattle.row.specs.declared.kind.Kind.the-variants.{Bytes, Reference, Union, Record, Enum, Fixed, Field, Symbol, Alias, FieldAlias}
@@ -32,12 +35,25 @@ goodText kind text =
     (cond (isKind Field kind || isKind FieldAlias kind || isKind Symbol kind) (isOwnName text)
     (isEmpty text)))
 
--- no row keeps a default
-unfoldable pub goodStrings : Row → Bool
-goodStrings r = goodText (r .kind) (r .text) && isEmpty (r .default)
+-- the scan has no fault
+unfoldable pub passes : Scan → Bool
+passes Whole = true
+passes (Bad f) = false
 
-unfoldable pub goodSize : Kind → ℕ → Bool
-goodSize kind size = cond (isKind Fixed kind) (ltb size (2 ^ 64)) (eqb size 0)
+-- a kept default: a whole text by the scan, with no white space before or behind its value, of at most 255 bytes
+unfoldable pub isDefault : List ℕ → Bool
+isDefault s = isShort s && passes (scanned s) && not (isSpace (byteAt s 0)) && not (isSpace (byteAt s (length s - 1)))
+
+-- a field may have one
+unfoldable pub goodDefault : Kind → List ℕ → Bool
+goodDefault kind default = isEmpty default || (isKind Field kind && isDefault default)
+
+unfoldable pub goodStrings : Row → Bool
+goodStrings r = goodText (r .kind) (r .text) && goodDefault (r .kind) (r .default)
+
+-- a fixed's size; where there is a default its position
+unfoldable pub goodSize : Row → Bool
+goodSize r = cond (isKind Fixed (r .kind)) (ltb (r .size) (2 ^ 64)) (cond (isEmpty (r .default)) (eqb (r .size) 0) (ltb (r .size) longest))
 
 -- a decimal's note: of bytes up to 6, of a fixed up to 7; no other row has one
 unfoldable pub goodNote : Kind → ℕ → Bool
@@ -57,7 +73,7 @@ goodPrecision kind size precision = cond (isKind Fixed kind) (leb precision (lim
 unfoldable pub goodNumbers : Row → Bool
 goodNumbers r =
     ltb (r .position) longest
-    && goodSize (r .kind) (r .size)
+    && goodSize r
     && goodNote (r .kind) (r .note)
     && goodPrecision (r .kind) (r .size) (r .precision)
     && goodDecimal (r .note) (r .precision) (r .scale)

@@ -13,7 +13,7 @@ use Rattle.json.specs.Json.{longest}
 use Rattle.row.specs.Kinds.{kindNumber}
 use Rattle.row.specs.Rows.{rowOf}
 use Rattle.row.specs.declared.kind.Kind.{Kind}
-use Rattle.row.specs.declared.kind.Kind.the-variants.{Bytes, Reference, Field}
+use Rattle.row.specs.declared.kind.Kind.the-variants.{Bytes, Reference}
 use Rattle.row.specs.declared.Entry.{Entry}
 use Rattle.row.specs.Memory.{countedAll, pushedAll}
 use Rattle.view.specs.declared.space.Spot.{Spot}
@@ -34,8 +34,8 @@ use Rattle.schema.specs.declared.walked.Walked.{Walked}
 use Rattle.schema.specs.declared.walked.Walked.the-variants.{Read, Bad}
 use Rattle.schema.specs.declared.walked.Defined.{Defined}
 use Rattle.schema.specs.declared.walked.Defined.the-variants as defined
-use Rattle.schema.specs.Out.{Out, refused, read, rowsThen, after, no, each}
-use Rattle.schema.specs.Schema.{Around, row, rowWith, newName, newKind, referenceRows, aliasRows, fieldAliasRows, fieldRows, symbolRows}
+use Rattle.schema.specs.Out.{Out, refused, read, rowsThen, andThen, after, no, each}
+use Rattle.schema.specs.Schema.{Around, rowWith, newName, newKind, referenceRows, aliasRows, fieldAliasRows, fieldRow, keptCheck, fieldRows, symbolRows}
 
 -- from the draft m with the counts c, a function that answered r and left m′ did what o says; a draft that was refused holds anything
 abbrev pub Did′ : List ℕ → Counts → List ℕ → Walked → Out → Type 0
@@ -103,7 +103,11 @@ symbolsRows t d p m =
 unfoldable pub fieldHead : List ℕ → ℕ → ℕ → Members → Out
 fieldHead t d f m =
     onSpot (asText t (m .name))
-    (λ q. after (simpleCheck t q) (rowsThen (row Field d q (stringAt t q)) (each (fieldAliasRows t (d + 1)) (aliasesIn t (m .aliases)))))
+    (λ q.
+    after (simpleCheck t q)
+    (rowsThen (fieldRow t d q (m .default) ∷ [])
+    (andThen (each (fieldAliasRows t (d + 1)) (aliasesIn t (m .aliases)))
+    (after (keptCheck t (m .default)) (read [])))))
     (no NameMissing f)
 
 -- an element of `fields`: what is no object is no field

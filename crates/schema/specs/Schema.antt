@@ -1,20 +1,23 @@
 -- From a declaration's text to its rows, section "Rows" of document 01.
 -- Assumes nothing.
-use Prim.Native.Nat.{ℕ, zero, suc, _+_}
+use Prim.Native.Nat.{ℕ, zero, suc, _+_, _-_}
 use mathlib.Core.Bool.{cond}
 use mathlib.Core.List.{List, [], _∷_}
 use lib.Dec.{eqb}
-use Rattle.answer.specs.declared.refusal.Why.the-variants.{NestedTooDeep, TypeMissing, NameMissing, FieldsMissing, SymbolsMissing, SizeMissing, NotASize, ItemsMissing, ValuesMissing}
+use Rattle.answer.specs.declared.refusal.Why.the-variants.{NestedTooDeep, TypeMissing, NameMissing, FieldsMissing, SymbolsMissing, SizeMissing, NotASize, ItemsMissing, ValuesMissing, DefaultTooLong}
+use Rattle.ground.specs.Bytes.{part}
 use Rattle.json.specs.Json.{scanned}
 use Rattle.json.specs.declared.verdict.Scan.{Scan}
 use Rattle.json.specs.declared.verdict.Scan.the-variants.{Whole, Bad}
 use Rattle.name.specs.Name.{namespacePart}
+use Rattle.name.specs.Full.{isShort}
 use Rattle.row.specs.Kinds.{kindNumber}
 use Rattle.row.specs.Rows.{Row}
 use Rattle.row.specs.declared.kind.Kind.{Kind}
 use Rattle.row.specs.declared.kind.Kind.the-variants.{Bytes, Reference, Array, Map, Union, Record, Enum, Fixed, Field, Symbol, Alias, FieldAlias}
 use Rattle.view.specs.declared.space.Spot.{Spot}
 use Rattle.view.specs.Values.{valueStart}
+use Rattle.view.specs.Ends.{endOf}
 use Rattle.view.specs.Elements.{elements}
 use Rattle.view.specs.Strings.{stringAt}
 use Rattle.view.specs.Size.{sizeOf}
@@ -22,11 +25,13 @@ use Rattle.view.specs.Members.{membersOf}
 use Rattle.view.specs.declared.members.Members.{Members}
 use Rattle.form.specs.declared.forms.Form.{Form}
 use Rattle.form.specs.declared.forms.Form.the-variants as form
+use Rattle.form.specs.declared.check.Check.{Check}
+use Rattle.form.specs.declared.check.Check.the-variants.{Fine}
 use Rattle.form.specs.declared.note.Note.{Note}
 use Rattle.form.specs.declared.note.Plain.the-variants as over
 use Rattle.rules.specs.declared.standing.Standing.{Standing}
 use Rattle.rules.specs.declared.standing.Standing.the-variants.{Alone, MemberOf}
-use Rattle.form.specs.Checks.{fault, _then_}
+use Rattle.form.specs.Checks.{fault, must, _then_}
 use Rattle.form.specs.Spots.{onSpot, asText, asArray, aliasesIn, fieldsIn}
 use Rattle.form.specs.Names.{simpleCheck, fullAt, referenceCheck, aliasCheck, definedAt, definitionCheck}
 use Rattle.form.specs.Forms.{wordKind, formOf, mostNested}
@@ -115,16 +120,39 @@ definition t a kind d p m size note rest =
 unfoldable pub fieldAliasRows : List ℕ → ℕ → ℕ → Out
 fieldAliasRows t d q = after (simpleCheck t q) (read (row FieldAlias d q (stringAt t q)))
 
--- the field, its aliases, its type, which `schema` reads
+-- a value as it is written, from its first byte to its last
+unfoldable pub writtenAt : List ℕ → ℕ → List ℕ
+writtenAt t v = part t v (endOf t v - v)
+
+-- the row of the field whose name stands at q: with a default it keeps the default's text and position
+unfoldable pub fieldRow : List ℕ → ℕ → ℕ → Spot → Row
+fieldRow t d q default = record {
+  kind = Field;
+  depth = d;
+  position = q;
+  text = stringAt t q;
+  default = onSpot default (writtenAt t) [];
+  size = onSpot default (λ v. v) 0;
+  note = 0;
+  precision = 0;
+  scale = 0;
+}
+
+-- 48: a default has at most 255 bytes as it is written
+unfoldable pub keptCheck : List ℕ → Spot → Check
+keptCheck t default = onSpot default (λ v. must (isShort (writtenAt t v)) (fault DefaultTooLong v)) Fine
+
+-- the field, its aliases, its default's length, its type, which `schema` reads
 unfoldable pub fieldRows : (ℕ → ℕ → Out) → List ℕ → ℕ → ℕ → Out
 fieldRows schema t d f =
     let m = membersOf t f in
     onSpot (asText t (m .name))
     (λ q.
     after (simpleCheck t q)
-    (rowsThen (row Field d q (stringAt t q))
+    (rowsThen (fieldRow t d q (m .default) ∷ [])
     (andThen (each (fieldAliasRows t (d + 1)) (aliasesIn t (m .aliases)))
-    (onSpot (m .typed) (schema (d + 1)) (no TypeMissing f)))))
+    (after (keptCheck t (m .default))
+    (onSpot (m .typed) (schema (d + 1)) (no TypeMissing f))))))
     (no NameMissing f)
 
 -- all fields, then their names in order

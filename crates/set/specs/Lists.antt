@@ -13,6 +13,7 @@ use Rattle.row.specs.Layout.{declarationLimit, rowLimit, stringLimit}
 use Rattle.row.specs.Rows.{Row, texts}
 use Rattle.row.specs.Sets.{flat}
 use Rattle.resolve.specs.Resolve.{faultIn}
+use Rattle.fits.specs.Misfits.{misfitIn}
 use Rattle.resolve.specs.declared.Resolution.{Resolution}
 use Rattle.resolve.specs.declared.Resolution.the-variants.{Resolved, Faulty}
 use Rattle.schema.specs.Out.{Out, refused, read}
@@ -39,19 +40,21 @@ abbrev pub onResolved : Resolution → ℕ → Result → Result
 onResolved Resolved place accepted = accepted
 onResolved (Faulty f) place accepted = refuses (placed f place)
 
--- one declaration more: 23 and 24 over the totals with it, then 25 and 26 in preorder, earlier declarations counted first
+-- one declaration more: 23 and 24 over the totals with it, then 25 and 26 in preorder, earlier declarations counted first, then 47 in preorder
 unfoldable pub append : List (List Row) → List Row → Result
 append ds rows =
     cond (ltb rowLimit (length (flat ds) + length rows)) (refuse TooManyRows (length ds) 0)
     (cond (ltb stringLimit (length (texts (flat ds)) + length (texts rows))) (refuse TooManyStringBytes (length ds) 0)
-    (onResolved (faultIn (flat ds) rows) (length ds) (becomes (ds ++ (rows ∷ [])))))
+    (onResolved (faultIn (flat ds) rows) (length ds)
+    (onResolved (misfitIn (flat ds ++ rows) rows) (length ds)
+    (becomes (ds ++ (rows ∷ []))))))
 
 -- declarations one after the other; the first that is refused is reported
 unfoldable pub appendAll : List (List Row) → List (List Row) → Result
 appendAll ds [] = becomes ds
 appendAll ds (rows ∷ more) = next (append ds rows) (λ longer. appendAll longer more)
 
--- put at a place: 21 above the count; 22 where there would be more declarations than the limit; then the text's own faults; then 23 to 26 for each
+-- put at a place: 21 above the count; 22 where there would be more declarations than the limit; then the text's own faults; then 23 to 26 and 47 for each
 -- declaration from the place on, in turn, the new one first. What stood at the place goes; at the place equal to the count nothing stood
 unfoldable pub putIn : List (List Row) → ℕ → List ℕ → Result
 putIn ds place text =

@@ -10,9 +10,9 @@ use Rattle.name.specs.Name.{isSimple, isName, isNamespace}
 use Rattle.view.specs.Strings.{stringAt}
 use Rattle.breach.specs.Breach.{BreaksAt}
 
--- the numbers that document 01 has for what a text says by itself: 1 to 19, 27 and 28
+-- the numbers that documents 01 and 02 have for what a text says by itself: 1 to 19, 27, 28 and 48
 abbrev pub isOwn : ℕ → Bool
-isOwn n = (ltb 0 n && ltb n 20) || eqb n 27 || eqb n 28
+isOwn n = (ltb 0 n && ltb n 20) || eqb n 27 || eqb n 28 || eqb n 48
 
 -- the rules: of fields, their aliases and symbols; of definitions, their aliases and references; of namespaces
 pub data Rule : Type 0 where
