@@ -25,7 +25,7 @@ cut-none (b ∷ bs) e = absurd (omega arith)
 module _ (s : List ℕ) where
   pub too-long : keptLimit < length s → false ≡ isDefault s
   unfolding isDefault isShort
-  too-long h = rw (lt-leb keptLimit (length s) h)
+  too-long h = rw (lt-leb (length s) keptLimit h)
 
   pub not-passed : length s ≤ keptLimit → passes (scanned s) ≡ false → false ≡ isDefault s
   unfolding isDefault isShort

@@ -16,9 +16,11 @@ enum-told-2 : tie.Need-enum-told-2
 enum-told-2 c = search needs
 
 returns : tie.Need-returns
+unfolding passes
 returns c = sym (ap passes (c .enum-told .given .1)) ∙ ap passes (c .before .before .scan .ensures)
 
 returns-2 : tie.Need-returns-2
+unfolding passes
 returns-2 c = sym (ap passes (c .enum-told2 .given .1)) ∙ ap passes (c .before .before .scan .ensures)
 
 pub passes-spec : {M : Type 1} → statement M

@@ -6,6 +6,7 @@ use Prim.Native.Nat.{ℕ, _^_}
 use lib.Dec.{eqb, ltb}
 use native.Mathlib.Omega.{arith}
 use Rattle.json.specs.Json.{longest}
+use Rattle.row.specs.Memory.{entryAt}
 use Rattle.resolve.specs.Rules.{goodSize}
 use Rattle.resolve.proofs.TreeLaws.{no-size, position-size}
 use borrow.Author.Needs.{needs}
@@ -17,7 +18,7 @@ is-kind-requires c κs = search needs
 
 returns : tie.Need-returns
 unfolding goodSize
-returns c = rw (sym (c .before .is-kind .ensures _ (c .before .before .before .pre .2)) ∙ c .if1 .taken, ← (c .before .before .before .pre .3), lt-ltb (c .before .before .before .args .size) (2 ^ 64) (omega arith))
+returns c = rw (sym (c .before .is-kind .ensures (entryAt (c .before .before .before .args .mem .now) (c .before .before .before .args .i) .kind) (c .before .before .before .pre .2)) ∙ c .if1 .taken, ← (c .before .before .before .pre .3), lt-ltb (c .before .before .before .args .size) (2 ^ 64) (omega arith))
 
 default-of-requires : tie.Need-default-of-requires
 default-of-requires c κs = search needs
