@@ -1,6 +1,6 @@
--- What may join a set: the tests 22 to 26 against what they mean.
+-- What may join a set: the tests 22 to 26 and 47 against what they mean.
 -- Assumes nothing.
-use mathlib.Core.Path.{_≡_, refl, sym, ap, _∙_}
+use mathlib.Core.Path.{_≡_, refl, sym, ap, subst, _∙_}
 use mathlib.Core.Bool.{Bool, true, false, not, cond, _&&_, _||_}
 use mathlib.Core.List.{List, [], _∷_, _++_, append-assoc, append-nil}
 use Prim.Native.Nat.{ℕ, _+_}
@@ -10,7 +10,7 @@ use lib.ListN.{length}
 use borrow.Author.Tests.{le-ltb, ltb-true, ltb-false}
 use Rattle.answer.specs.Places.{placed}
 use Rattle.answer.specs.declared.refusal.Why.{Why}
-use Rattle.answer.specs.declared.refusal.Why.the-variants.{TooManyRows, TooManyStringBytes, DefinedAlready, ReferenceUnknown}
+use Rattle.answer.specs.declared.refusal.Why.the-variants.{TooManyRows, TooManyStringBytes, DefinedAlready, ReferenceUnknown, DefaultDoesNotFit}
 use Rattle.answer.specs.declared.refusal.Fault.{Fault}
 use Rattle.answer.specs.declared.refusal.Refusal.{Refusal}
 use Rattle.ground.specs.Bytes.{same}
@@ -24,8 +24,9 @@ use Rattle.resolve.specs.Rules.{some}
 use Rattle.resolve.specs.Resolve.{defines, isDefined, faulty, faultOf, orElse, faultIn}
 use Rattle.resolve.specs.declared.Resolution.{Resolution}
 use Rattle.resolve.specs.declared.Resolution.the-variants.{Resolved, Faulty}
+use Rattle.fits.specs.Misfits.{defaultFits, misfit, misfitIn}
 use Rattle.set.specs.Lists.{becomes, refuses, refuse, onResolved, append, putIn}
-use Rattle.demands.specs.Building.{Defines, here, later, Clean, Joins, Broken, twice, unknown, FirstBroken, Barred, many-rows, many-bytes, bad-name}
+use Rattle.demands.specs.Building.{Defines, here, later, Clean, EachFits, Joins, Broken, twice, unknown, FirstBroken, FirstMisfit, this, further, Barred, many-rows, many-bytes, bad-name, bad-default}
 use Rattle.demands.proofs.Steps.{not-both, append-done, last-is, last-done}
 
 -- ---- what is defined
@@ -147,17 +148,42 @@ faulty-first earlier (r ∷ rows) f e = go (faultOf earlier r) refl (faulty-firs
         let w = row-broken earlier r f (p ∙ q) in
         record { before = []; row = r; rest = rows; is = refl; clean = tt; broken = rw (append-nil earlier) (w .0); position = w .1 }
 
+-- ---- 47
+
+pub resolved-fits : (all rows : List Row) → misfitIn all rows ≡ Resolved → EachFits all rows
+unfolding misfitIn EachFits
+resolved-fits all [] e = tt
+resolved-fits all (r ∷ rest) e = go (defaultFits all r rest) refl (resolved-fits all rest) e
+  where
+    go : (b : Bool) → defaultFits all r rest ≡ b → (misfitIn all rest ≡ Resolved → EachFits all rest) → cond b (misfitIn all rest) (misfit r) ≡ Resolved → EachFits all (r ∷ rest)
+    go true p more f = (p, more f)
+    go false p more f = let y : _≡_ {A = ℕ} 0 1 = cc in absurd (omega arith)
+
+pub fits-resolved : (all rows : List Row) → EachFits all rows → misfitIn all rows ≡ Resolved
+unfolding misfitIn EachFits
+fits-resolved all [] c = refl
+fits-resolved all (r ∷ rest) c = rw (c .0) (fits-resolved all rest (c .1))
+
+pub misfit-first : (all rows : List Row) (f : Fault) → misfitIn all rows ≡ Faulty f → FirstMisfit all rows f
+unfolding misfitIn
+misfit-first all [] f e = let y : _≡_ {A = ℕ} 0 1 = cc in absurd (omega arith)
+misfit-first all (r ∷ rest) f e = go (defaultFits all r rest) refl (misfit-first all rest f) e
+  where
+    go : (b : Bool) → defaultFits all r rest ≡ b → (misfitIn all rest ≡ Faulty f → FirstMisfit all rest f) → cond b (misfitIn all rest) (misfit r) ≡ Faulty f → FirstMisfit all (r ∷ rest) f
+    go true p more g = further p (more g)
+    go false p more g = let y : record { why = DefaultDoesNotFit; at = r .size } ≡ f = cc in subst (FirstMisfit all (r ∷ rest)) y (this p)
+
 -- ---- one declaration more
 
 pub join-only : (ds : List (List Row)) (t : List ℕ) (d : List (List Row)) → putIn ds (length ds) t ≡ becomes d → (rows : List Row) × Joins ds t rows × (d ≡ ds ++ (rows ∷ []))
 join-only ds t d e =
     let a = last-done ds t d e in
     let b = append-done ds (a .rows) d (a .then) in
-    (a .rows, record { few = a .few; reads = a .reads; fit = b .fit; room = b .room; clean = resolved-clean (flat ds) (a .rows) (b .resolved) }, a .is)
+    (a .rows, record { few = a .few; reads = a .reads; fit = b .fit; room = b .room; clean = resolved-clean (flat ds) (a .rows) (b .resolved); fitting = resolved-fits (flat ds ++ a .rows) (a .rows) (b .fitting) }, a .is)
 
 pub join-if : (ds : List (List Row)) (t : List ℕ) (rows : List Row) → Joins ds t rows → putIn ds (length ds) t ≡ becomes (ds ++ (rows ∷ []))
 unfolding append
-join-if ds t rows j = last-is ds t (j .few) ∙ rw (j .reads, le-ltb rowLimit _ (j .fit), le-ltb stringLimit _ (j .room), clean-resolved (flat ds) rows (j .clean))
+join-if ds t rows j = last-is ds t (j .few) ∙ rw (j .reads, le-ltb rowLimit _ (j .fit), le-ltb stringLimit _ (j .room), clean-resolved (flat ds) rows (j .clean), fits-resolved (flat ds ++ rows) rows (j .fitting))
 
 refused-is : {r s : Refusal} → refuses r ≡ refuses s → r ≡ s
 refused-is e = cc
@@ -165,12 +191,13 @@ refused-is e = cc
 -- why rows were refused
 pub append-barred : (ds : List (List Row)) (rows : List Row) (r : Refusal) → append ds rows ≡ refuses r → (f : Fault) × Barred ds rows f × (r ≡ placed f (length ds))
 unfolding append
-append-barred ds rows r e = go (ltb rowLimit (length (flat ds) + length rows)) (ltb stringLimit (length (texts (flat ds)) + length (texts rows))) (faultIn (flat ds) rows) refl refl refl e
+append-barred ds rows r e = go (ltb rowLimit (length (flat ds) + length rows)) (ltb stringLimit (length (texts (flat ds)) + length (texts rows))) (faultIn (flat ds) rows) (misfitIn (flat ds ++ rows) rows) refl refl refl refl e
   where
-    go : (a b : Bool) (x : Resolution) → ltb rowLimit (length (flat ds) + length rows) ≡ a → ltb stringLimit (length (texts (flat ds)) + length (texts rows)) ≡ b → faultIn (flat ds) rows ≡ x
-        → cond a (refuse TooManyRows (length ds) 0) (cond b (refuse TooManyStringBytes (length ds) 0) (onResolved x (length ds) (becomes (ds ++ (rows ∷ []))))) ≡ refuses r
+    go : (a b : Bool) (x y : Resolution) → ltb rowLimit (length (flat ds) + length rows) ≡ a → ltb stringLimit (length (texts (flat ds)) + length (texts rows)) ≡ b → faultIn (flat ds) rows ≡ x → misfitIn (flat ds ++ rows) rows ≡ y
+        → cond a (refuse TooManyRows (length ds) 0) (cond b (refuse TooManyStringBytes (length ds) 0) (onResolved x (length ds) (onResolved y (length ds) (becomes (ds ++ (rows ∷ [])))))) ≡ refuses r
         → (f : Fault) × Barred ds rows f × (r ≡ placed f (length ds))
-    go true b x p q z f = (record { why = TooManyRows; at = 0 }, many-rows (ltb-true _ _ p), sym (refused-is f))
-    go false true x p q z f = (record { why = TooManyStringBytes; at = 0 }, many-bytes (ltb-false _ _ p) (ltb-true _ _ q), sym (refused-is f))
-    go false false Resolved p q z f = not-both f
-    go false false (Faulty g) p q z f = (g, bad-name (ltb-false _ _ p) (ltb-false _ _ q) (faulty-first (flat ds) rows g z), sym (refused-is f))
+    go true b x y p q z w f = (record { why = TooManyRows; at = 0 }, many-rows (ltb-true _ _ p), sym (refused-is f))
+    go false true x y p q z w f = (record { why = TooManyStringBytes; at = 0 }, many-bytes (ltb-false _ _ p) (ltb-true _ _ q), sym (refused-is f))
+    go false false Resolved Resolved p q z w f = not-both f
+    go false false Resolved (Faulty g) p q z w f = (g, bad-default (ltb-false _ _ p) (ltb-false _ _ q) (resolved-clean (flat ds) rows z) (misfit-first (flat ds ++ rows) rows g w), sym (refused-is f))
+    go false false (Faulty g) y p q z w f = (g, bad-name (ltb-false _ _ p) (ltb-false _ _ q) (faulty-first (flat ds) rows g z), sym (refused-is f))

@@ -26,6 +26,7 @@ use Rattle.resolve.specs.Kinds.{isKind, isDefinition}
 use Rattle.resolve.specs.Resolve.{isDefined, faulty, faultOf, orElse, faultIn}
 use Rattle.resolve.specs.declared.Resolution.{Resolution}
 use Rattle.resolve.specs.declared.Resolution.the-variants.{Resolved, Faulty}
+use Rattle.fits.specs.Misfits.{defaultFits, misfit, misfitIn}
 use Rattle.schema.specs.Out.{Out, read}
 use Rattle.schema.specs.Out as out
 use Rattle.schema.specs.Schema.{declared}
@@ -43,17 +44,18 @@ isAsked n = ltb 19 n && ltb n 23
 own-not : (n : ℕ) → isOwn n ≡ true → isAsked n ≡ false
 own-not n h = go (isAsked n) refl
   where
-    none : 19 < n → n < 23 → (a b c : Bool) → (ltb 0 n && ltb n 20) ≡ a → eqb n 27 ≡ b → eqb n 28 ≡ c → (a || b || c) ≡ true → true ≡ false
-    none l k true b c p q r e = absurd (omega (arith, ltb-true n 20 (and-true (ltb 0 n) (ltb n 20) p .1)))
-    none l k false true c p q r e = absurd (omega (arith, eqb-true n 27 q))
-    none l k false false true p q r e = absurd (omega (arith, eqb-true n 28 r))
-    none l k false false false p q r e = never e
+    none : 19 < n → n < 23 → (a b c d : Bool) → (ltb 0 n && ltb n 20) ≡ a → eqb n 27 ≡ b → eqb n 28 ≡ c → eqb n 48 ≡ d → (a || b || c || d) ≡ true → true ≡ false
+    none l k true b c d p q r s e = absurd (omega (arith, ltb-true n 20 (and-true (ltb 0 n) (ltb n 20) p .1)))
+    none l k false true c d p q r s e = absurd (omega (arith, eqb-true n 27 q))
+    none l k false false true d p q r s e = absurd (omega (arith, eqb-true n 28 r))
+    none l k false false false true p q r s e = absurd (omega (arith, eqb-true n 48 s))
+    none l k false false false false p q r s e = never e
 
     go : (x : Bool) → isAsked n ≡ x → isAsked n ≡ false
     go false p = p
     go true p =
         let z = and-true (ltb 19 n) (ltb n 23) p in
-        p ∙ none (ltb-true _ _ (z .0)) (ltb-true _ _ (z .1)) (ltb 0 n && ltb n 20) (eqb n 27) (eqb n 28) refl refl refl h
+        p ∙ none (ltb-true _ _ (z .0)) (ltb-true _ _ (z .1)) (ltb 0 n && ltb n 20) (eqb n 27) (eqb n 28) (eqb n 48) refl refl refl refl h
 
 -- neither 7 nor one of these
 abbrev isLater : Why → Bool
@@ -81,6 +83,16 @@ rows-other : (earlier rows : List Row) → Other (faultIn earlier rows)
 unfolding faultIn
 rows-other earlier [] = tt
 rows-other earlier (r ∷ rows) = else-other (faultOf earlier r) (faultIn (earlier ++ (r ∷ [])) rows) (row-other earlier r) (rows-other (earlier ++ (r ∷ [])) rows)
+
+-- 47
+misfits-other : (all rows : List Row) → Other (misfitIn all rows)
+unfolding misfitIn
+misfits-other all [] = tt
+misfits-other all (r ∷ rest) = go (defaultFits all r rest) (misfits-other all rest)
+  where
+    go : (b : Bool) → Other (misfitIn all rest) → Other (cond b (misfitIn all rest) (misfit r))
+    go true h = h
+    go false h = refl
 
 module _ (text : List ℕ) (place : ℕ) where
   record Tells (r : Refusal) : Type 0 where
@@ -124,7 +136,8 @@ module _ (text : List ℕ) (place : ℕ) where
   append-fair ds rows =
       cond-fair (ltb rowLimit (length (flat ds) + length rows)) _ _ (other TooManyRows (length ds) 0 refl)
       (cond-fair (ltb stringLimit (length (texts (flat ds)) + length (texts rows))) _ _ (other TooManyStringBytes (length ds) 0 refl)
-      (resolved-fair (faultIn (flat ds) rows) (length ds) (becomes (ds ++ (rows ∷ []))) (rows-other (flat ds) rows) tt))
+      (resolved-fair (faultIn (flat ds) rows) (length ds) _ (rows-other (flat ds) rows)
+      (resolved-fair (misfitIn (flat ds ++ rows) rows) (length ds) (becomes (ds ++ (rows ∷ []))) (misfits-other (flat ds ++ rows) rows) tt)))
 
   all-fair : (more ds : List (List Row)) → Fair (appendAll ds more)
   unfolding appendAll

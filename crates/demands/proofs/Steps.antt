@@ -1,7 +1,6 @@
 -- What an accepted step tells, and what it keeps.
 -- Assumes nothing.
 use mathlib.Core.Path.{_≡_, refl, sym, ap, _∙_}
-use mathlib.Core.Logic.{⊎-elim}
 use mathlib.Core.Bool.{Bool, true, false, cond}
 use mathlib.Core.List.{List, [], _∷_, _++_, append-assoc, append-nil}
 use Prim.Native.Nat.{ℕ, zero, suc, _+_, _<_, _≤_}
@@ -11,19 +10,19 @@ use lib.Dec.{ltb}
 use lib.ListN.{length, take, drop, length-append, length-take, length-drop, drop-of-length-le}
 use lib.Seq.{take-all}
 use borrow.Author.Tests.{lt-ltb, le-ltb, ltb-false}
-use Rattle.answer.specs.declared.refusal.Why.the-variants.{TextTooLong, TooManyDeclarations}
+use Rattle.answer.specs.declared.refusal.Why.the-variants.{TooManyDeclarations}
 use Rattle.answer.specs.declared.refusal.Refusal.{Refusal}
 use Rattle.ground.proofs.Laws.{and-true}
 use Rattle.name.specs.Name.{every}
-use Rattle.json.specs.Json.{longest, fault, scanned}
+use Rattle.json.specs.Json.{scanned}
 use Rattle.json.specs.declared.verdict.Scan.{Scan}
 use Rattle.json.specs.declared.verdict.Scan.the-variants.{Whole, Bad}
-use Rattle.json.proofs.Laws.{split, too-long}
 use Rattle.row.specs.Layout.{declarationLimit, rowLimit, stringLimit}
 use Rattle.row.specs.Rows.{Row, texts}
 use Rattle.row.specs.Sets.{flat}
 use Rattle.resolve.specs.Rules.{isDeclaration}
 use Rattle.resolve.specs.Resolve.{faultIn}
+use Rattle.fits.specs.Misfits.{misfitIn}
 use Rattle.formed.specs.WellFormed.{Good}
 use Rattle.resolve.specs.declared.Resolution.{Resolution}
 use Rattle.resolve.specs.declared.Resolution.the-variants.{Resolved, Faulty}
@@ -81,6 +80,7 @@ pub record Appended (ds : List (List Row)) (rows : List Row) (d : List (List Row
   pub fit : length (flat ds) + length rows ≤ rowLimit
   pub room : length (texts (flat ds)) + length (texts rows) ≤ stringLimit
   pub resolved : faultIn (flat ds) rows ≡ Resolved
+  pub fitting : misfitIn (flat ds ++ rows) rows ≡ Resolved
   pub is : d ≡ ds ++ (rows ∷ [])
 
 pub append-done : (ds : List (List Row)) (rows : List Row) (d : List (List Row)) → append ds rows ≡ becomes d → Appended ds rows d
@@ -89,7 +89,8 @@ append-done ds rows d e =
     let p = must-not (ltb rowLimit (length (flat ds) + length rows)) _ _ d e in
     let q = must-not (ltb stringLimit (length (texts (flat ds)) + length (texts rows))) _ _ d (p .1) in
     let z = resolved-done (faultIn (flat ds) rows) _ _ d (q .1) in
-    record { fit = ltb-false _ _ (p .0); room = ltb-false _ _ (q .0); resolved = z .0; is = sym (becomes-inj (z .1)) }
+    let w = resolved-done (misfitIn (flat ds ++ rows) rows) _ _ d (z .1) in
+    record { fit = ltb-false _ _ (p .0); room = ltb-false _ _ (q .0); resolved = z .0; fitting = w .0; is = sym (becomes-inj (w .1)) }
 
 pub appends-are : (a b d : List (List Row)) → appendAll a b ≡ becomes d → d ≡ a ++ b
 unfolding appendAll
@@ -177,17 +178,12 @@ read-scanned t rows e = go (scanned t) e
 
 -- its rows keep the rules
 pub read-kept : (t : List ℕ) (rows : List Row) → declared t ≡ read rows → isDeclaration rows ≡ true
-read-kept t rows e =
-    let s = read-scanned t rows e in
-    ⊎-elim (λ l. long (sym (s .0) ∙ too-long t l)) (λ l. kept t rows l (s .1)) (split longest (length t))
-  where
-    long : Whole ≡ fault TextTooLong longest → isDeclaration rows ≡ true
-    long z = let y : _≡_ {A = ℕ} 0 1 = cc in absurd (omega arith)
+read-kept t rows e = let s = read-scanned t rows e in kept t rows (s .0) (s .1)
 
 pub append-good : (ds : List (List Row)) (rows : List Row) (d : List (List Row)) → Good ds → isDeclaration rows ≡ true → length ds < declarationLimit → append ds rows ≡ becomes d → Good d
 append-good ds rows d g h few e =
     let a = append-done ds rows d e in
-    rw (a .is) (more-good ds rows g few (a .fit) (a .room) h (a .resolved))
+    rw (a .is) (more-good ds rows g few (a .fit) (a .room) h (a .resolved) (a .fitting))
 
 pub appends-good : (a b d : List (List Row)) → Good a → every isDeclaration b ≡ true → length a + length b ≤ declarationLimit → appendAll a b ≡ becomes d → Good d
 unfolding appendAll every

@@ -8,7 +8,7 @@ use lib.Dec.{eqb}
 use lib.ListN.{length, take, drop}
 use Rattle.answer.specs.Places.{placed}
 use Rattle.answer.specs.declared.refusal.Why.{Why}
-use Rattle.answer.specs.declared.refusal.Why.the-variants.{TooManyRows, TooManyStringBytes, DefinedAlready, ReferenceUnknown}
+use Rattle.answer.specs.declared.refusal.Why.the-variants.{TooManyRows, TooManyStringBytes, DefinedAlready, ReferenceUnknown, DefaultDoesNotFit}
 use Rattle.answer.specs.declared.refusal.Fault.{Fault}
 use Rattle.answer.specs.declared.numbers.Numbers.{Numbers}
 use Rattle.answer.specs.declared.Answer.{Answer}
@@ -19,6 +19,7 @@ use Rattle.row.specs.Rows.{Row, texts}
 use Rattle.row.specs.Sets.{flat, encode}
 use Rattle.row.specs.declared.kind.Kind.the-variants.{Reference}
 use Rattle.resolve.specs.Kinds.{isKind, isDefinition}
+use Rattle.fits.specs.Misfits.{defaultFits}
 use Rattle.schema.specs.Out.{read}
 use Rattle.schema.specs.Schema.{declared}
 use Rattle.set.specs.Lists.{Result}
@@ -83,6 +84,11 @@ Clean earlier (r ∷ rows) =
     × (isKind Reference (r .kind) ≡ true → Defines earlier (r .text))
     × Clean (earlier ++ (r ∷ [])) rows
 
+-- in preorder, each row with the rows behind it: it has no default, or one that fits its field's type; references are looked up among all rows
+unfoldable pub EachFits : List Row → List Row → Type 0
+EachFits all [] = Unit {0}
+EachFits all (r ∷ rest) = (defaultFits all r rest ≡ true) × EachFits all rest
+
 -- the text, whose rows these are, may join the set
 pub record Joins (ds : List (List Row)) (text : List ℕ) (rows : List Row) : Type 0 where
   -- there is a place for it
@@ -94,6 +100,8 @@ pub record Joins (ds : List (List Row)) (text : List ℕ) (rows : List Row) : Ty
   pub room : length (texts (flat ds)) + length (texts rows) ≤ stringLimit
   -- its names are new where it defines them and known where it refers to them, earlier declarations counted first
   pub clean : Clean (flat ds) rows
+  -- each default fits its field's type, whatever that refers to
+  pub fitting : EachFits (flat ds ++ rows) rows
 
 -- ---- places
 
@@ -131,13 +139,20 @@ pub record FirstBroken (earlier rows : List Row) (f : Fault) : Type 0 where
   pub broken : Broken (earlier ++ before) row (f .why)
   pub position : f .at ≡ row .position
 
--- why rows may not join the set: 23, then 24, then 25 and 26
+-- 47: the first row in preorder whose default does not fit, at the default's position
+pub data FirstMisfit (all : List Row) : List Row → Fault → Type 0 where
+  this : {r : Row} {rest : List Row} → defaultFits all r rest ≡ false → FirstMisfit all (r ∷ rest) (record { why = DefaultDoesNotFit; at = r .size })
+  further : {r : Row} {rest : List Row} {f : Fault} → defaultFits all r rest ≡ true → FirstMisfit all rest f → FirstMisfit all (r ∷ rest) f
+
+-- why rows may not join the set: 23, then 24, then 25 and 26, then 47
 pub data Barred (ds : List (List Row)) (rows : List Row) : Fault → Type 0 where
   many-rows : rowLimit < length (flat ds) + length rows → Barred ds rows (record { why = TooManyRows; at = 0 })
   many-bytes : length (flat ds) + length rows ≤ rowLimit → stringLimit < length (texts (flat ds)) + length (texts rows)
       → Barred ds rows (record { why = TooManyStringBytes; at = 0 })
   bad-name : {f : Fault} → length (flat ds) + length rows ≤ rowLimit → length (texts (flat ds)) + length (texts rows) ≤ stringLimit
       → FirstBroken (flat ds) rows f → Barred ds rows f
+  bad-default : {f : Fault} → length (flat ds) + length rows ≤ rowLimit → length (texts (flat ds)) + length (texts rows) ≤ stringLimit → Clean (flat ds) rows
+      → FirstMisfit (flat ds ++ rows) rows f → Barred ds rows f
 
 -- a declaration behind the place asked for is at fault, by the rows that the set holds for it; n is the answer, n .first the place it tells
 pub record LaterBarred (ds : List (List Row)) (place : ℕ) (text : List ℕ) (n : Numbers) : Type 0 where

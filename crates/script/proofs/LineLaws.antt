@@ -12,7 +12,8 @@ use Rattle.ground.specs.Ascii.{ascii}
 use Rattle.ground.proofs.Laws.{and-true}
 use Rattle.row.specs.Layout.{rowLimit, layoutLength}
 use Rattle.row.specs.Kinds.{kindNumber}
-use Rattle.row.specs.Memory.{entryAt, textAt}
+use Rattle.row.specs.Memory.{entryAt, textAt, defaultAt}
+use Rattle.row.specs.declared.Entry.{Entry}
 use Rattle.row.specs.declared.kind.Kind.{Kind}
 use Rattle.row.specs.declared.kind.Kind.the-variants.{Null, Boolean, Int, Long, Float, Double, Bytes, String, Reference, Array, Map, Union, Record, Enum, Fixed, Field, Symbol, Alias, FieldAlias}
 use Rattle.script.specs.Words.{wordsOf, wordAt}
@@ -46,12 +47,15 @@ kind-word Symbol = refl
 kind-word Alias = refl
 kind-word FieldAlias = refl
 
+pub line-is : {e e′ : Entry} {a a′ d d′ : List ℕ} → e ≡ e′ → a ≡ a′ → d ≡ d′ → rowLine e a d ≡ rowLine e′ a′ d′
+line-is p q r = λ i. rowLine (p i) (q i) (r i)
+
 module _ (m₀ : List ℕ) (at₀ : ℕ) (s₀ mem : List ℕ) (i left : ℕ) (m : List ℕ) (at : ℕ) (inv : Rest m at (rowLines mem left i) m₀ at₀ s₀) where
-  pub rows-turn : (m₁ : List ℕ) (r : ℕ) → 0 < left → Put m at (rowLine (entryAt mem i) (textAt mem i)) m₁ r → Rest m₁ r (rowLines mem (left - 1) (i + 1)) m₀ at₀ s₀
+  pub rows-turn : (m₁ : List ℕ) (r : ℕ) → 0 < left → Put m at (rowLine (entryAt mem i) (textAt mem i) (defaultAt mem i)) m₁ r → Rest m₁ r (rowLines mem (left - 1) (i + 1)) m₀ at₀ s₀
   unfolding rowLines
   rows-turn m₁ r h p m₂ q d =
       let e : left ≡ suc (left - 1) = omega arith in
-      let g : rowLine (entryAt mem i) (textAt mem i) ++ rowLines mem (left - 1) (i + 1) ≡ rowLines mem left i = ap (λ (k : ℕ). rowLines mem k i) (sym e) in
+      let g : rowLine (entryAt mem i) (textAt mem i) (defaultAt mem i) ++ rowLines mem (left - 1) (i + 1) ≡ rowLines mem left i = ap (λ (k : ℕ). rowLines mem k i) (sym e) in
       inv m₂ q (put-is g (put-then p d))
 
   pub rows-end : left ≤ 0 → Put m₀ at₀ s₀ m at

@@ -10,7 +10,7 @@ use Rattle.answer.specs.declared.refusal.Fault.{Fault}
 use Rattle.answer.specs.declared.refusal.Refusal.{Refusal}
 use Rattle.ground.specs.Ascii.{ascii}
 use Rattle.row.specs.Layout.{rowLimit, layoutLength}
-use Rattle.row.specs.Memory.{entryAt, textAt}
+use Rattle.row.specs.Memory.{entryAt, textAt, defaultAt}
 use Rattle.row.specs.declared.Entry.{Entry}
 use Rattle.row.specs.declared.kind.Kind.{Kind}
 use Rattle.row.specs.declared.kind.Kind.the-variants.{Null, Boolean, Int, Long, Float, Double, Bytes, String, Reference, Array, Map, Union, Record, Enum, Fixed, Field, Symbol, Alias, FieldAlias}
@@ -48,17 +48,30 @@ faultLine f = ascii "refused" ++ (spaced (numberOf (f .why)) ++ (spaced (f .at) 
 unfoldable pub refusalLine : Refusal → List ℕ
 refusalLine r = ascii "refused" ++ (spaced (numberOf (r .why)) ++ (spaced (r .place) ++ (spaced (r .at) ++ ascii "\n")))
 
--- the six numbers of a row
-unfoldable pub rowNumbers : Entry → List ℕ
-rowNumbers e = spaced (e .depth) ++ (spaced (e .position) ++ (spaced (e .size) ++ (spaced (e .note) ++ (spaced (e .precision) ++ spaced (e .scale)))))
+-- a row holds one number as a fixed's size or, where it has a default, as the default's position; the other of the two is 0
+unfoldable pub ownSize : Entry → List ℕ → ℕ
+ownSize e default = cond (eqb (length default) 0) (e .size) 0
 
-unfoldable pub rowLine : Entry → List ℕ → List ℕ
-rowLine e text = ascii "row " ++ (kindWord (e .kind) ++ (rowNumbers e ++ (ascii " " ++ (hexOf text ++ ascii "\n"))))
+unfoldable pub defaultPosition : Entry → List ℕ → ℕ
+defaultPosition e default = cond (eqb (length default) 0) 0 (e .size)
+
+-- the six numbers of a row
+unfoldable pub rowNumbers : Entry → ℕ → List ℕ
+rowNumbers e size = spaced (e .depth) ++ (spaced (e .position) ++ (spaced size ++ (spaced (e .note) ++ (spaced (e .precision) ++ spaced (e .scale)))))
+
+-- a string behind a space
+unfoldable pub spacedHex : List ℕ → List ℕ
+spacedHex s = ascii " " ++ hexOf s
+
+unfoldable pub rowLine : Entry → List ℕ → List ℕ → List ℕ
+rowLine e text default =
+    ascii "row " ++ (kindWord (e .kind) ++ (rowNumbers e (ownSize e default)
+    ++ (spacedHex text ++ (spaced (defaultPosition e default) ++ (spacedHex default ++ ascii "\n")))))
 
 -- n rows of a set's memory from row i on
 unfoldable pub rowLines : List ℕ → ℕ → ℕ → List ℕ
 rowLines m zero i = []
-rowLines m (suc n) i = rowLine (entryAt m i) (textAt m i) ++ rowLines m n (i + 1)
+rowLines m (suc n) i = rowLine (entryAt m i) (textAt m i) (defaultAt m i) ++ rowLines m n (i + 1)
 
 -- does the memory have those rows?
 unfoldable pub hasRows : List ℕ → ℕ → ℕ → Bool

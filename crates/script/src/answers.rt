@@ -9,6 +9,7 @@ use answer::Refusal;
 use row::Entry;
 use row::Kind;
 use row::Layout;
+use row::read::default_of;
 use row::read::read_row;
 use row::read::string_of;
 ghost use mathlib.Core.Path.{_≡_};
@@ -16,7 +17,7 @@ ghost use Prim.Native.Nat.{_+_, _<_, _≤_};
 ghost use lib.ListN.{length};
 ghost use Rattle.row.specs.Layout.{rowLimit, layoutLength};
 ghost use Rattle.script.specs.Put.{Put};
-ghost use Rattle.script.specs.Lines.{kindWord, spaced, faultLine, refusalLine, rowNumbers, rowLine, rowLines, hasRows, rowsText};
+ghost use Rattle.script.specs.Lines.{kindWord, spaced, faultLine, refusalLine, ownSize, defaultPosition, rowNumbers, spacedHex, rowLine, rowLines, hasRows, rowsText};
 
 // A space, and a number.
 pub fn put_spaced(out: &mut [u8], at: usize, n: u64) -> usize
@@ -57,28 +58,57 @@ fn put_kind(out: &mut [u8], at: usize, kind: Kind) -> usize
     put(out, at, word(words, n))
 }
 
-fn put_numbers(out: &mut [u8], at: usize, row: Entry) -> usize
-    ensures { λ r. ⌜ Put (now (out .entry)) at (rowNumbers row) (now (out .exit)) r ⌝ }
+// The size of a fixed; a row with a default has none.
+fn own_size(row: Entry, default: &[u8]) -> u64
+    ensures { λ r. ⌜ r ≡ ownSize row (now (default .entry)) ⌝ }
+{
+    if default.len() == 0 {
+        return row.size;
+    }
+    0
+}
+
+// The position of the default, 0 where there is none.
+fn default_position(row: Entry, default: &[u8]) -> u64
+    ensures { λ r. ⌜ r ≡ defaultPosition row (now (default .entry)) ⌝ }
+{
+    if default.len() == 0 {
+        return 0;
+    }
+    row.size
+}
+
+fn put_numbers(out: &mut [u8], at: usize, row: Entry, size: u64) -> usize
+    ensures { λ r. ⌜ Put (now (out .entry)) at (rowNumbers row size) (now (out .exit)) r ⌝ }
 {
     let a = put_spaced(out, at, row.depth as u64);
     let b = put_spaced(out, a, row.position as u64);
-    let c = put_spaced(out, b, row.size);
+    let c = put_spaced(out, b, size);
     let d = put_spaced(out, c, row.note as u64);
     let e = put_spaced(out, d, row.precision);
     put_spaced(out, e, row.scale)
 }
 
-// A row and its string.
-pub fn put_row(out: &mut [u8], at: usize, row: Entry, text: &[u8]) -> usize
-    ensures { λ r. ⌜ Put (now (out .entry)) at (rowLine row (now (text .entry))) (now (out .exit)) r ⌝ }
+// A space, and bytes.
+fn put_spaced_hex(out: &mut [u8], at: usize, bytes: &[u8]) -> usize
+    ensures { λ r. ⌜ Put (now (out .entry)) at (spacedHex (now (bytes .entry))) (now (out .exit)) r ⌝ }
+{
+    let next = put(out, at, b" ");
+    put_hex(out, next, bytes)
+}
+
+// A row, its string and its default.
+pub fn put_row(out: &mut [u8], at: usize, row: Entry, text: &[u8], default: &[u8]) -> usize
+    ensures { λ r. ⌜ Put (now (out .entry)) at (rowLine row (now (text .entry)) (now (default .entry))) (now (out .exit)) r ⌝ }
 {
     let kind = row.kind;
     let a = put(out, at, b"row ");
     let b = put_kind(out, a, kind);
-    let c = put_numbers(out, b, row);
-    let d = put(out, c, b" ");
-    let e = put_hex(out, d, text);
-    put(out, e, b"\n")
+    let c = put_numbers(out, b, row, own_size(row, default));
+    let d = put_spaced_hex(out, c, text);
+    let e = put_spaced(out, d, default_position(row, default));
+    let f = put_spaced_hex(out, e, default);
+    put(out, f, b"\n")
 }
 
 // n rows of a set's memory from row `start` on, which it has.
@@ -92,7 +122,8 @@ fn put_each(out: &mut [u8], at: usize, mem: &[u8], start: usize, n: usize) -> us
     while 0 < left {
         let row = read_row(mem, i);
         let text = string_of(mem, i);
-        end = put_row(out, end, row, text);
+        let default = default_of(mem, i);
+        end = put_row(out, end, row, text, default);
         i += 1;
         left -= 1;
     }

@@ -1,13 +1,13 @@
 -- `script::answers::put_each` meets its contract: what is put after the rows so far gives the whole.
 -- Assumes nothing.
-use mathlib.Core.Path.{ap₂, _≡_, refl}
+use mathlib.Core.Path.{_≡_, refl}
 use Prim.Native.Nat.{_+_}
 use lib.ListN.{length}
-use borrow.Author.Needs.{needs}
-use Rattle.script.specs.Lines.{rowLine, rowLines}
+use Rattle.script.specs.Lines.{rowLines}
 use Rattle.script.proofs.HexLaws.{Rest}
-use Rattle.script.proofs.LineLaws.{rows-turn, rows-end}
+use Rattle.script.proofs.LineLaws.{line-is, rows-turn, rows-end}
 use Rattle.script.proofs.Laws.{put-is}
+use borrow.Author.Needs.{needs}
 use Rattle.script.proofs.answers.put_each.Statement.{statement}
 use Rattle.script.proofs.answers.put_each.Tie as tie
 
@@ -26,6 +26,9 @@ read-row-requires c κs = (search needs, search needs)
 string-of-requires : tie.Need-string-of-requires Inv-loop μ-loop
 string-of-requires c κs = (search needs, search needs)
 
+default-of-requires : tie.Need-default-of-requires Inv-loop μ-loop
+default-of-requires c κs = (search needs, search needs)
+
 put-row-requires : tie.Need-put-row-requires Inv-loop μ-loop
 put-row-requires c κs = search needs
 
@@ -39,8 +42,8 @@ loop-less : tie.Need-loop-less Inv-loop μ-loop
 loop-less c = search needs
 
 loop-again : tie.Need-loop-again Inv-loop μ-loop
-loop-again c =
-    (search needs, search needs, rows-turn _ _ _ _ _ _ _ _ (c .before .before .before .before .before .before .before .loop .inv .2) _ _ (c .before .before .before .before .before .before .loop-test .taken) (put-is (ap₂ rowLine (c .before .before .before .before .before .read-row .ensures) (c .before .before .before .before .string-of .ensures .0)) (c .before .before .put-row .ensures)))
+loop-again c = 
+    (search needs, search needs, rows-turn _ _ _ _ _ _ _ _ (c .before .before .before .before .before .before .before .before .loop .inv .2) _ _ (c .before .before .before .before .before .before .before .loop-test .taken) (put-is (line-is (c .before .before .before .before .before .before .read-row .ensures) (c .before .before .before .before .before .string-of .ensures .0) (c .before .before .before .before .default-of .ensures .0)) (c .before .before .put-row .ensures)))
 
 same-length : tie.Need-same-length Inv-loop μ-loop
 same-length c = search needs
@@ -57,6 +60,7 @@ put-each-spec =
     loop-holds
     read-row-requires
     string-of-requires
+    default-of-requires
     put-row-requires
     add-i
     sub-left
