@@ -3,28 +3,29 @@
 use mathlib.Core.Path.{_≡_, refl}
 use mathlib.Core.Bool.{Bool, true, false, not, cond, _&&_, _||_}
 use mathlib.Core.List.{List, [], _∷_, _++_}
-use Prim.Native.Nat.{ℕ, _+_, _^_, _<_, _≤_}
+use Prim.Native.Nat.{ℕ, _+_, _-_, _^_, _<_, _≤_}
 use native.Mathlib.Omega.{arith}
 use lib.Dec.{eqb, leb, ltb, lit≤}
 use lib.ListN.{length}
 use borrow.Author.Tests.{lt-ltb, ltb-true, leb-true, eqb-true}
-use Rattle.ground.proofs.Laws.{and-true, and-intro}
+use Rattle.ground.specs.Bytes.{byteAt}
+use Rattle.ground.proofs.Laws.{and-true, and-intro, never}
 use Rattle.name.specs.Name.{every, isEmpty, isSimple, isDotted, isReserved}
 use Rattle.name.specs.Full.{isShort, keptLimit}
 use Rattle.name.proofs.Laws.{empty-nil}
-use Rattle.json.specs.Json.{longest}
+use Rattle.json.specs.Json.{longest, isSpace, scanned}
 use Rattle.row.specs.Layout.{rowLimit}
 use Rattle.row.specs.Rows.{Row, fits, allFit}
 use Rattle.row.specs.declared.kind.Kind.{Kind}
 use Rattle.row.specs.declared.kind.Kind.the-variants.{Bytes, Reference, Fixed, Field, Symbol, Alias, FieldAlias}
 use Rattle.resolve.specs.Kinds.{isKind, isDefinition, isSchema}
-use Rattle.resolve.specs.Rules.{isFullName, isOwnName, goodText, goodStrings, goodSize, goodNote, goodPrecision, goodDecimal, goodNumbers, goodParts, goodRow, goodRows, climbs, isDeclaration}
+use Rattle.resolve.specs.Rules.{isFullName, isOwnName, goodText, passes, isDefault, goodDefault, goodStrings, goodSize, goodNote, goodPrecision, goodDecimal, goodNumbers, goodParts, goodRow, goodRows, climbs, isDeclaration}
 
 -- ---- the numbers of good rows
 
 pub record Numbered (r : Row) : Type 0 where
   pub position : r .position < longest
-  pub size : goodSize (r .kind) (r .size) ≡ true
+  pub size : goodSize r ≡ true
   pub note : goodNote (r .kind) (r .note) ≡ true
   pub precision : goodPrecision (r .kind) (r .size) (r .precision) ≡ true
   pub decimal : goodDecimal (r .note) (r .precision) (r .scale) ≡ true
@@ -35,18 +36,19 @@ numbered r e =
     let a = and-true _ (goodDecimal (r .note) (r .precision) (r .scale)) e in
     let b = and-true _ (goodPrecision (r .kind) (r .size) (r .precision)) (a .0) in
     let c = and-true _ (goodNote (r .kind) (r .note)) (b .0) in
-    let d = and-true (ltb (r .position) longest) (goodSize (r .kind) (r .size)) (c .0) in
+    let d = and-true (ltb (r .position) longest) (goodSize r) (c .0) in
     record { position = ltb-true _ _ (d .0); size = d .1; note = c .1; precision = b .1; decimal = a .1 }
 
 -- ---- they fit their bytes
 
-size-fits : (k : Kind) (n : ℕ) → goodSize k n ≡ true → n < 2 ^ 64
+size-fits : (r : Row) → goodSize r ≡ true → r .size < 2 ^ 64
 unfolding goodSize
-size-fits k n e = go (isKind Fixed k) e
+size-fits r e = go (r .size) (isKind Fixed (r .kind)) (isEmpty (r .default)) e
   where
-    go : (b : Bool) → cond b (ltb n (2 ^ 64)) (eqb n 0) ≡ true → n < 2 ^ 64
-    go true e = ltb-true _ _ e
-    go false e = omega (arith, eqb-true n 0 e)
+    go : (n : ℕ) (b none : Bool) → cond b (ltb n (2 ^ 64)) (cond none (eqb n 0) (ltb n longest)) ≡ true → n < 2 ^ 64
+    go n true none e = ltb-true _ _ e
+    go n false true e = omega (arith, eqb-true n 0 e)
+    go n false false e = omega (arith, ltb-true n longest e)
 
 note-fits : (k : Kind) (n : ℕ) → goodNote k n ≡ true → n < 2 ^ 8
 unfolding goodNote
@@ -89,13 +91,25 @@ text-fits k s e = go (isDefinition k || isKind Alias k) (isKind Reference k) (is
 
 pub strings-text : (r : Row) → goodStrings r ≡ true → goodText (r .kind) (r .text) ≡ true
 unfolding goodStrings
-strings-text r e = and-true (goodText (r .kind) (r .text)) (isEmpty (r .default)) e .0
+strings-text r e = and-true (goodText (r .kind) (r .text)) (goodDefault (r .kind) (r .default)) e .0
+
+pub strings-default : (r : Row) → goodStrings r ≡ true → goodDefault (r .kind) (r .default) ≡ true
+unfolding goodStrings
+strings-default r e = and-true (goodText (r .kind) (r .text)) (goodDefault (r .kind) (r .default)) e .1
+
+-- none, or a short one of a field
+default-fits : (k : Kind) (s : List ℕ) → goodDefault k s ≡ true → length s < 2 ^ 8
+unfolding goodDefault isDefault
+default-fits k s e = go (isEmpty s) refl (isKind Field k) e
+  where
+    go : (none : Bool) → isEmpty s ≡ none → (b : Bool) → (none || (b && (isShort s && passes (scanned s) && not (isSpace (byteAt s 0)) && not (isSpace (byteAt s (length s - 1)))))) ≡ true → length s < 2 ^ 8
+    go true n b e = empty-fits s n
+    go false n true e = short-fits s (and-true (isShort s) _ (and-true (isShort s && passes (scanned s)) _ (and-true (isShort s && passes (scanned s) && not (isSpace (byteAt s 0))) _ e .0) .0) .0)
+    go false n false e = never e
 
 strings-fit : (r : Row) → goodStrings r ≡ true → (length (r .text) < 2 ^ 8) × (length (r .default) < 2 ^ 8)
-unfolding goodStrings
 strings-fit r e =
-    let a = and-true (goodText (r .kind) (r .text)) (isEmpty (r .default)) e in
-    (text-fits (r .kind) (r .text) (a .0), empty-fits (r .default) (a .1))
+    (text-fits (r .kind) (r .text) (strings-text r e), default-fits (r .kind) (r .default) (strings-default r e))
 
 row-fits : (r : Row) → goodStrings r ≡ true → goodNumbers r ≡ true → r .depth < 2 ^ 16 → fits r ≡ true
 unfolding fits
@@ -104,7 +118,7 @@ row-fits r s e h =
     let p : r .position < 2 ^ 16 = omega (arith, g .position) in
     let d = decimal-fits (r .note) (r .precision) (r .scale) (g .decimal) in
     let l = strings-fit r s in
-    rw (lt-ltb (r .depth) (2 ^ 16) h, lt-ltb (r .position) (2 ^ 16) p, lt-ltb (r .size) (2 ^ 64) (size-fits (r .kind) (r .size) (g .size)), lt-ltb (r .note) (2 ^ 8) (note-fits (r .kind) (r .note) (g .note)), lt-ltb (r .precision) (2 ^ 64) (d .0), lt-ltb (r .scale) (2 ^ 64) (d .1), lt-ltb (length (r .text)) (2 ^ 8) (l .0), lt-ltb (length (r .default)) (2 ^ 8) (l .1))
+    rw (lt-ltb (r .depth) (2 ^ 16) h, lt-ltb (r .position) (2 ^ 16) p, lt-ltb (r .size) (2 ^ 64) (size-fits r (g .size)), lt-ltb (r .note) (2 ^ 8) (note-fits (r .kind) (r .note) (g .note)), lt-ltb (r .precision) (2 ^ 64) (d .0), lt-ltb (r .scale) (2 ^ 64) (d .1), lt-ltb (length (r .text)) (2 ^ 8) (l .0), lt-ltb (length (r .default)) (2 ^ 8) (l .1))
 
 -- what a good row keeps
 pub row-keeps : (r : Row) (rest : List Row) → goodRow r rest ≡ true → (goodStrings r ≡ true) × (goodNumbers r ≡ true)

@@ -7,18 +7,19 @@ use Prim.Native.Nat.{ℕ, zero, suc, _+_, _-_, _<_, _≤_}
 use native.Mathlib.Nat.{add-zero}
 use native.Mathlib.Numerals.{add-one}
 use native.Mathlib.Omega.{arith}
-use lib.Dec.{eqb, eqb·suc-zero}
+use lib.Dec.{eqb, ltb, eqb·suc-zero}
 use lib.ListN.{length}
 use borrow.Author.Tests.{lt-ltb, le-ltb, le-leb, lt-leb, eq-eqb, ne-eqb}
 use Rattle.name.specs.Name.{every}
 use Rattle.name.proofs.Laws.{empty-none, empty-some}
+use Rattle.json.specs.Json.{longest}
 use Rattle.row.specs.Rows.{Row}
 use Rattle.row.specs.Sets.{rowsFrom}
 use Rattle.row.specs.Memory.{entryAt, textAt, defaultAt, rowAt}
 use Rattle.row.specs.declared.kind.Kind.{Kind}
-use Rattle.row.specs.declared.kind.Kind.the-variants.{Union, Record, Enum}
+use Rattle.row.specs.declared.kind.Kind.the-variants.{Union, Record, Enum, Fixed}
 use Rattle.resolve.specs.Kinds.{isKind, isSchema, isPartOf, past, bodyFits, partsFit}
-use Rattle.resolve.specs.Rules.{goodText, goodStrings, goodNumbers, under, kindsAt, takesName, sameSymbol, sameMember, clash, some, noTwo, goodParts, noClash, goodRow, goodRows, climbs, isDeclaration}
+use Rattle.resolve.specs.Rules.{goodText, goodDefault, goodStrings, goodSize, goodNumbers, under, kindsAt, takesName, sameSymbol, sameMember, clash, some, noTwo, goodParts, noClash, goodRow, goodRows, climbs, isDeclaration}
 use Rattle.resolve.specs.Steps.{isLeading, mayEnd, leftFit, isRuled}
 use Rattle.resolve.proofs.MemoryLaws.{rows-none, rows-cons, rows-next, rows-end}
 
@@ -174,13 +175,23 @@ module _ (m : List ℕ) (end j : ℕ) (x : Bool) (inv : x ≡ goodRows (rowsFrom
 
 -- a row's strings
 module _ (m : List ℕ) (i : ℕ) (d : List ℕ) (e : d ≡ defaultAt m i) where
-  pub a-default : (length d ≡ 0 → ⊥) → false ≡ goodStrings (rowAt m i)
+  pub bad-default : goodDefault (entryAt m i .kind) d ≡ false → false ≡ goodStrings (rowAt m i)
   unfolding goodStrings
-  a-default h = rw (← e, empty-some d h, and-false)
+  bad-default h = rw (← e, h, and-false)
 
-  pub no-default : length d ≡ 0 → goodText (entryAt m i .kind) (textAt m i) ≡ goodStrings (rowAt m i)
+  pub fine-default : goodDefault (entryAt m i .kind) d ≡ true → goodText (entryAt m i .kind) (textAt m i) ≡ goodStrings (rowAt m i)
   unfolding goodStrings
-  no-default h = rw (← e, empty-none d h, and-true)
+  fine-default h = rw (← e, h, and-true)
+
+-- and its size, of a row that is no fixed
+module _ (m : List ℕ) (i : ℕ) (d : List ℕ) (e : d ≡ defaultAt m i) (k : isKind Fixed (entryAt m i .kind) ≡ false) where
+  pub no-size : length d ≡ 0 → eqb (entryAt m i .size) 0 ≡ goodSize (rowAt m i)
+  unfolding goodSize
+  no-size h = rw (k, ← e, empty-none d h)
+
+  pub position-size : (length d ≡ 0 → ⊥) → ltb (entryAt m i .size) longest ≡ goodSize (rowAt m i)
+  unfolding goodSize
+  position-size h = rw (k, ← e, empty-some d h)
 
 -- a row's tests, one after the other
 module _ (m : List ℕ) (i : ℕ) (rest : List Row) where

@@ -1,6 +1,7 @@
 // The rules that the rows of a declaration keep, and resolution of names over the rows of a set.
 mod clash;
 mod declaration;
+mod defaults;
 mod kinds;
 mod names;
 mod numbers;

@@ -3,6 +3,7 @@ use crate::kinds::is_kind;
 use decimals::limit;
 use json::Scan;
 use row::Kind;
+use row::read::default_of;
 use row::read::note_at;
 use row::read::position_at;
 use row::read::precision_at;
@@ -17,13 +18,18 @@ ghost use Rattle.row.specs.Memory.{entryAt, rowAt};
 ghost use Rattle.row.specs.declared.kind.Kind.{Kind};
 ghost use Rattle.resolve.specs.Rules.{goodSize, goodNote, goodPrecision, goodDecimal, goodNumbers};
 
-fn good_size(kind: u8, size: u64) -> bool
-    ensures { λ r. ⌜ ((k : Kind) → kind ≡ kindNumber k → r ≡ goodSize k size) ⌝ }
+// The size of row i, whose kind has this number: a fixed's, or where there is a default the position of that.
+fn good_size(mem: &[u8], kind: u8, i: usize, size: u64) -> bool
+    requires { ⌜ (length (now mem) ≡ layoutLength) × (i < rowLimit) × (kind ≡ kindNumber (entryAt (now mem) i .kind)) × (size ≡ entryAt (now mem) i .size) ⌝ }
+    ensures { λ r. ⌜ r ≡ goodSize (rowAt (now (mem .entry)) i) ⌝ }
 {
     if is_kind(Kind::Fixed, kind) {
         return true;
     }
-    size == 0
+    if default_of(mem, i).len() == 0 {
+        return size == 0;
+    }
+    size < Scan::TEXT as u64
 }
 
 fn good_note(kind: u8, note: u8) -> bool
@@ -71,7 +77,7 @@ pub fn good_numbers(mem: &[u8], kind: u8, i: usize) -> bool
         return false;
     }
     let size = size_at(mem, i);
-    if !good_size(kind, size) {
+    if !good_size(mem, kind, i, size) {
         return false;
     }
     let note = note_at(mem, i);

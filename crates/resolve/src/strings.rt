@@ -1,4 +1,5 @@
 // The strings that a row keeps, by its kind's number.
+use crate::defaults::good_default;
 use crate::kinds::is_definition;
 use crate::kinds::is_kind;
 use name::Full;
@@ -91,7 +92,7 @@ pub fn good_strings(mem: &[u8], kind: u8, i: usize) -> bool
     requires { ⌜ (length (now mem) ≡ layoutLength) × (i < rowLimit) × (kind ≡ kindNumber (entryAt (now mem) i .kind)) ⌝ }
     ensures { λ r. ⌜ r ≡ goodStrings (rowAt (now (mem .entry)) i) ⌝ }
 {
-    if default_of(mem, i).len() != 0 {
+    if !good_default(kind, default_of(mem, i)) {
         return false;
     }
     good_text(kind, string_of(mem, i))

@@ -28,7 +28,7 @@ good-size-requires c κs = search needs
 returns-2 : tie.Need-returns-2
 unfolding goodNumbers
 returns-2 c =
-    rw (ap (λ (x : ℕ). ltb x longest) (sym (c .before .before .before .before .position-at .ensures)) ∙ lt-ltb _ _ (c .before .before .before .if1 .left), ap (goodSize (entryAt (c .before .before .before .before .before .before .args .mem .now) (c .before .before .before .before .before .before .args .i) .kind)) (sym (c .before .before .size-at .ensures)) ∙ sym (c .before .good-size .ensures (entryAt (c .before .before .before .before .before .before .args .mem .now) (c .before .before .before .before .before .before .args .i) .kind) (c .before .before .before .before .before .before .pre .2)) ∙ not-true _ (c .if2 .taken))
+    rw (ap (λ (x : ℕ). ltb x longest) (sym (c .before .before .before .before .position-at .ensures)) ∙ lt-ltb _ _ (c .before .before .before .if1 .left), sym (c .before .good-size .ensures) ∙ not-true _ (c .if2 .taken))
 
 note-at-requires : tie.Need-note-at-requires
 note-at-requires c κs = search needs
@@ -39,7 +39,7 @@ good-note-requires c κs = search needs
 returns-3 : tie.Need-returns-3
 unfolding goodNumbers
 returns-3 c =
-    rw (ap (λ (x : ℕ). ltb x longest) (sym (c .before .before .before .before .before .before .before .position-at .ensures)) ∙ lt-ltb _ _ (c .before .before .before .before .before .before .if1 .left), ap (goodSize (entryAt (c .before .before .before .before .before .before .before .before .before .args .mem .now) (c .before .before .before .before .before .before .before .before .before .args .i) .kind)) (sym (c .before .before .before .before .before .size-at .ensures)) ∙ sym (c .before .before .before .before .good-size .ensures (entryAt (c .before .before .before .before .before .before .before .before .before .args .mem .now) (c .before .before .before .before .before .before .before .before .before .args .i) .kind) (c .before .before .before .before .before .before .before .before .before .pre .2)) ∙ not-false _ (c .before .before .before .if2 .left), ap (goodNote (entryAt (c .before .before .before .before .before .before .before .before .before .args .mem .now) (c .before .before .before .before .before .before .before .before .before .args .i) .kind)) (sym (c .before .before .note-at .ensures)) ∙ sym (c .before .good-note .ensures (entryAt (c .before .before .before .before .before .before .before .before .before .args .mem .now) (c .before .before .before .before .before .before .before .before .before .args .i) .kind) (c .before .before .before .before .before .before .before .before .before .pre .2)) ∙ not-true _ (c .if3 .taken))
+    rw (ap (λ (x : ℕ). ltb x longest) (sym (c .before .before .before .before .before .before .before .position-at .ensures)) ∙ lt-ltb _ _ (c .before .before .before .before .before .before .if1 .left), sym (c .before .before .before .before .good-size .ensures) ∙ not-false _ (c .before .before .before .if2 .left), ap (goodNote (entryAt (c .before .before .before .before .before .before .before .before .before .args .mem .now) (c .before .before .before .before .before .before .before .before .before .args .i) .kind)) (sym (c .before .before .note-at .ensures)) ∙ sym (c .before .good-note .ensures (entryAt (c .before .before .before .before .before .before .before .before .before .args .mem .now) (c .before .before .before .before .before .before .before .before .before .args .i) .kind) (c .before .before .before .before .before .before .before .before .before .pre .2)) ∙ not-true _ (c .if3 .taken))
 
 precision-at-requires : tie.Need-precision-at-requires
 precision-at-requires c κs = search needs
@@ -50,7 +50,7 @@ good-precision-requires c κs = search needs
 returns-4 : tie.Need-returns-4
 unfolding goodNumbers
 returns-4 c =
-    rw (ap (λ (x : ℕ). ltb x longest) (sym (c .before .before .before .before .before .before .before .before .before .before .position-at .ensures)) ∙ lt-ltb _ _ (c .before .before .before .before .before .before .before .before .before .if1 .left), ap (goodSize (entryAt (c .before .before .before .before .before .before .before .before .before .before .before .before .args .mem .now) (c .before .before .before .before .before .before .before .before .before .before .before .before .args .i) .kind)) (sym (c .before .before .before .before .before .before .before .before .size-at .ensures)) ∙ sym (c .before .before .before .before .before .before .before .good-size .ensures (entryAt (c .before .before .before .before .before .before .before .before .before .before .before .before .args .mem .now) (c .before .before .before .before .before .before .before .before .before .before .before .before .args .i) .kind) (c .before .before .before .before .before .before .before .before .before .before .before .before .pre .2)) ∙ not-false _ (c .before .before .before .before .before .before .if2 .left), ap (goodNote (entryAt (c .before .before .before .before .before .before .before .before .before .before .before .before .args .mem .now) (c .before .before .before .before .before .before .before .before .before .before .before .before .args .i) .kind)) (sym (c .before .before .before .before .before .note-at .ensures)) ∙ sym (c .before .before .before .before .good-note .ensures (entryAt (c .before .before .before .before .before .before .before .before .before .before .before .before .args .mem .now) (c .before .before .before .before .before .before .before .before .before .before .before .before .args .i) .kind) (c .before .before .before .before .before .before .before .before .before .before .before .before .pre .2)) ∙ not-false _ (c .before .before .before .if3 .left), ap₂ (goodPrecision (entryAt (c .before .before .before .before .before .before .before .before .before .before .before .before .args .mem .now) (c .before .before .before .before .before .before .before .before .before .before .before .before .args .i) .kind)) (sym (c .before .before .before .before .before .before .before .before .size-at .ensures)) (sym (c .before .before .precision-at .ensures)) ∙ sym (c .before .good-precision .ensures (entryAt (c .before .before .before .before .before .before .before .before .before .before .before .before .args .mem .now) (c .before .before .before .before .before .before .before .before .before .before .before .before .args .i) .kind) (c .before .before .before .before .before .before .before .before .before .before .before .before .pre .2)) ∙ not-true _ (c .if4 .taken))
+    rw (ap (λ (x : ℕ). ltb x longest) (sym (c .before .before .before .before .before .before .before .before .before .before .position-at .ensures)) ∙ lt-ltb _ _ (c .before .before .before .before .before .before .before .before .before .if1 .left), sym (c .before .before .before .before .before .before .before .good-size .ensures) ∙ not-false _ (c .before .before .before .before .before .before .if2 .left), ap (goodNote (entryAt (c .before .before .before .before .before .before .before .before .before .before .before .before .args .mem .now) (c .before .before .before .before .before .before .before .before .before .before .before .before .args .i) .kind)) (sym (c .before .before .before .before .before .note-at .ensures)) ∙ sym (c .before .before .before .before .good-note .ensures (entryAt (c .before .before .before .before .before .before .before .before .before .before .before .before .args .mem .now) (c .before .before .before .before .before .before .before .before .before .before .before .before .args .i) .kind) (c .before .before .before .before .before .before .before .before .before .before .before .before .pre .2)) ∙ not-false _ (c .before .before .before .if3 .left), ap₂ (goodPrecision (entryAt (c .before .before .before .before .before .before .before .before .before .before .before .before .args .mem .now) (c .before .before .before .before .before .before .before .before .before .before .before .before .args .i) .kind)) (sym (c .before .before .before .before .before .before .before .before .size-at .ensures)) (sym (c .before .before .precision-at .ensures)) ∙ sym (c .before .good-precision .ensures (entryAt (c .before .before .before .before .before .before .before .before .before .before .before .before .args .mem .now) (c .before .before .before .before .before .before .before .before .before .before .before .before .args .i) .kind) (c .before .before .before .before .before .before .before .before .before .before .before .before .pre .2)) ∙ not-true _ (c .if4 .taken))
 
 scale-at-requires : tie.Need-scale-at-requires
 scale-at-requires c κs = search needs
@@ -61,7 +61,7 @@ good-decimal-requires c κs = search needs
 returns-5 : tie.Need-returns-5
 unfolding goodNumbers
 returns-5 c =
-    rw (ap (λ (x : ℕ). ltb x longest) (sym (c .before .before .before .before .before .before .before .before .before .before .before .before .position-at .ensures)) ∙ lt-ltb _ _ (c .before .before .before .before .before .before .before .before .before .before .before .if1 .left), ap (goodSize (entryAt (c .before .before .before .before .before .before .before .before .before .before .before .before .before .before .args .mem .now) (c .before .before .before .before .before .before .before .before .before .before .before .before .before .before .args .i) .kind)) (sym (c .before .before .before .before .before .before .before .before .before .before .size-at .ensures)) ∙ sym (c .before .before .before .before .before .before .before .before .before .good-size .ensures (entryAt (c .before .before .before .before .before .before .before .before .before .before .before .before .before .before .args .mem .now) (c .before .before .before .before .before .before .before .before .before .before .before .before .before .before .args .i) .kind) (c .before .before .before .before .before .before .before .before .before .before .before .before .before .before .pre .2)) ∙ not-false _ (c .before .before .before .before .before .before .before .before .if2 .left), ap (goodNote (entryAt (c .before .before .before .before .before .before .before .before .before .before .before .before .before .before .args .mem .now) (c .before .before .before .before .before .before .before .before .before .before .before .before .before .before .args .i) .kind)) (sym (c .before .before .before .before .before .before .before .note-at .ensures)) ∙ sym (c .before .before .before .before .before .before .good-note .ensures (entryAt (c .before .before .before .before .before .before .before .before .before .before .before .before .before .before .args .mem .now) (c .before .before .before .before .before .before .before .before .before .before .before .before .before .before .args .i) .kind) (c .before .before .before .before .before .before .before .before .before .before .before .before .before .before .pre .2)) ∙ not-false _ (c .before .before .before .before .before .if3 .left), ap₂ (goodPrecision (entryAt (c .before .before .before .before .before .before .before .before .before .before .before .before .before .before .args .mem .now) (c .before .before .before .before .before .before .before .before .before .before .before .before .before .before .args .i) .kind)) (sym (c .before .before .before .before .before .before .before .before .before .before .size-at .ensures)) (sym (c .before .before .before .before .precision-at .ensures)) ∙ sym (c .before .before .before .good-precision .ensures (entryAt (c .before .before .before .before .before .before .before .before .before .before .before .before .before .before .args .mem .now) (c .before .before .before .before .before .before .before .before .before .before .before .before .before .before .args .i) .kind) (c .before .before .before .before .before .before .before .before .before .before .before .before .before .before .pre .2)) ∙ not-false _ (c .before .before .if4 .left)) (cc)
+    rw (ap (λ (x : ℕ). ltb x longest) (sym (c .before .before .before .before .before .before .before .before .before .before .before .before .position-at .ensures)) ∙ lt-ltb _ _ (c .before .before .before .before .before .before .before .before .before .before .before .if1 .left), sym (c .before .before .before .before .before .before .before .before .before .good-size .ensures) ∙ not-false _ (c .before .before .before .before .before .before .before .before .if2 .left), ap (goodNote (entryAt (c .before .before .before .before .before .before .before .before .before .before .before .before .before .before .args .mem .now) (c .before .before .before .before .before .before .before .before .before .before .before .before .before .before .args .i) .kind)) (sym (c .before .before .before .before .before .before .before .note-at .ensures)) ∙ sym (c .before .before .before .before .before .before .good-note .ensures (entryAt (c .before .before .before .before .before .before .before .before .before .before .before .before .before .before .args .mem .now) (c .before .before .before .before .before .before .before .before .before .before .before .before .before .before .args .i) .kind) (c .before .before .before .before .before .before .before .before .before .before .before .before .before .before .pre .2)) ∙ not-false _ (c .before .before .before .before .before .if3 .left), ap₂ (goodPrecision (entryAt (c .before .before .before .before .before .before .before .before .before .before .before .before .before .before .args .mem .now) (c .before .before .before .before .before .before .before .before .before .before .before .before .before .before .args .i) .kind)) (sym (c .before .before .before .before .before .before .before .before .before .before .size-at .ensures)) (sym (c .before .before .before .before .precision-at .ensures)) ∙ sym (c .before .before .before .good-precision .ensures (entryAt (c .before .before .before .before .before .before .before .before .before .before .before .before .before .before .args .mem .now) (c .before .before .before .before .before .before .before .before .before .before .before .before .before .before .args .i) .kind) (c .before .before .before .before .before .before .before .before .before .before .before .before .before .before .pre .2)) ∙ not-false _ (c .before .before .if4 .left)) (cc)
 
 pub good-numbers-spec : {M : Type 1} → statement M
 good-numbers-spec =
