@@ -83,7 +83,7 @@ module _ (t : List ℕ) (rs : List Row) (s : scanned t ≡ Whole) (e : rowsOf t 
   pub kept-first : First rs
   kept-first = declaration-first rs kept
 
-  -- every kept string has 1 to 255 bytes
+  -- every kept name has 1 to 255 bytes
   pub kept-texts : All (λ r. KeptText (r .kind) (r .text)) rs
   kept-texts = declaration-texts rs kept
 
