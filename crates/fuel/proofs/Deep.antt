@@ -89,6 +89,12 @@ pub record Deep (t : List ℕ) (n p : ℕ) : Type 0 where
 pub deep-less : {t : List ℕ} {n p : ℕ} → Deep t (suc n) p → Deep t n p
 deep-less d = let l = d .least in record { stack = d .stack; scanned = d .scanned; least = omega arith; most = d .most }
 
+pub deep-any : {t : List ℕ} {n p : ℕ} → Deep t n p → Deep t 0 p
+deep-any d = record { stack = d .stack; scanned = d .scanned; least = omega arith; most = d .most }
+
+pub deep-within : {t : List ℕ} {n p : ℕ} → Deep t n p → p < length t
+deep-within {t} {n} {p} d = more t p val (d .stack) refl (d .scanned .on)
+
 -- it opens with the byte c
 pub record Opens (t : List ℕ) (n c p : ℕ) : Type 0 where
   pub deep : Deep t n p

@@ -13,22 +13,42 @@ use Rattle.view.specs.declared.shape.Shape.{Shape}
 use Rattle.view.specs.declared.shape.Shape.the-variants.{Text, Number, Object, Array, Word, Nothing}
 use Rattle.view.specs.Values.{shapeAt}
 use Rattle.view.specs.Strings.{stringAt}
-use Rattle.view.specs.Members.{type-key, membersOf}
+use Rattle.view.specs.Members.{type-key, fields-key, default-key, items-key, values-key, membersOf}
 use Rattle.form.specs.declared.forms.Form.{Form}
 use Rattle.form.specs.declared.forms.Form.the-variants as form
 use Rattle.form.specs.Checks.{fault}
-use Rattle.form.specs.Spots.{onSpot, isText, isObject, isArray}
+use Rattle.form.specs.Spots.{onSpot, isText, isObject, isArray, asArray}
 use Rattle.form.specs.Forms.{objectForm, formBy, formWithin}
-use Rattle.fuel.proofs.Deep.{Deep, Opens, array-byte, object-byte, deep-less, deep-member}
+use Rattle.fuel.proofs.Deep.{Deep, Opens, array-byte, object-byte, as-array, deep-less, deep-member}
 
 pub spot-same : {A : Type 0} (s : Spot) {f g : ℕ → A} (x : A) → ((q : ℕ) → s ≡ At q → f q ≡ g q) → onSpot s f x ≡ onSpot s g x
 spot-same (At q) x h = h q refl
 spot-same Nowhere x h = refl
 
 module _ (t : List ℕ) where
+  -- ---- the members of an object
+
   pub typed-deep : (n p : ℕ) → Opens t n 123 p → (q : ℕ) → membersOf t p .typed ≡ At q → Deep t (suc n) q
   unfolding membersOf
   typed-deep n p o q e = deep-member t n p o type-key q e
+
+  pub default-at : (n p : ℕ) → Opens t n 123 p → (q : ℕ) → membersOf t p .default ≡ At q → Deep t (suc n) q
+  unfolding membersOf
+  default-at n p o q e = deep-member t n p o default-key q e
+
+  pub items-at : (n p : ℕ) → Opens t n 123 p → (q : ℕ) → membersOf t p .items ≡ At q → Deep t (suc n) q
+  unfolding membersOf
+  items-at n p o q e = deep-member t n p o items-key q e
+
+  pub values-at : (n p : ℕ) → Opens t n 123 p → (q : ℕ) → membersOf t p .values ≡ At q → Deep t (suc n) q
+  unfolding membersOf
+  values-at n p o q e = deep-member t n p o values-key q e
+
+  pub fields-at : (n p : ℕ) → Opens t n 123 p → (v : ℕ) → asArray t (membersOf t p .fields) ≡ At v → Opens t (suc n) 91 v
+  unfolding membersOf
+  fields-at n p o v e = let i = as-array t (membersOf t p .fields) v e in record { deep = deep-member t n p o fields-key v (i .0); byte = i .1 }
+
+  -- ---- values that open with a bracket
 
   opens-array : (n p : ℕ) → Deep t n p → shapeAt t p ≡ Array → Opens t n 91 p
   opens-array n p d e = record { deep = d; byte = array-byte (byteAt t p) (ap isArray e) }

@@ -1,18 +1,20 @@
 -- Rows in preorder: trees one behind the other, all of one depth, whose rows are good ones.
 -- Assumes nothing.
-use mathlib.Core.Path.{_≡_, refl, ap, _∙_}
-use mathlib.Core.Bool.{Bool, true, false, not, cond}
+use mathlib.Core.Path.{_≡_, refl, sym, ap, _∙_}
+use mathlib.Core.Bool.{Bool, true, false, cond}
 use mathlib.Core.List.{List, [], _∷_, _++_}
 use Prim.Native.Nat.{ℕ, _+_, _<_, _≤_}
 use native.Mathlib.Omega.{arith}
 use lib.Dec.{eqb, ltb}
+use lib.ListN.{length}
 use borrow.Author.Tests.{eq-eqb, ne-eqb, eqb-false, le-leb, lt-ltb, le-ltb}
-use Rattle.ground.proofs.Laws.{and-true, and-intro}
+use Rattle.ground.proofs.Laws.{never, and-true, and-intro}
 use Rattle.name.specs.Name.{every, isEmpty}
 use Rattle.row.specs.Rows.{Row}
 use Rattle.row.specs.declared.kind.Kind.{Kind}
+use Rattle.schema.specs.Schema.{writtenAt}
 use Rattle.resolve.specs.Kinds.{isSchema, partsFit}
-use Rattle.resolve.specs.Rules.{goodText, goodStrings, goodNumbers, under, kindsAt, noTwo, clash, goodParts, noClash, goodRow, goodRows, climbs, isDeclaration}
+use Rattle.resolve.specs.Rules.{goodText, goodDefault, goodStrings, goodNumbers, under, kindsAt, noTwo, clash, goodParts, noClash, goodRow, goodRows, climbs, isDeclaration}
 use Rattle.kept.proofs.Lists.{All, nil, cons, all-append, every-both, kinds-append}
 
 -- ---- depths: none below e, the first at most m, each at most 1 deeper than the row before it
@@ -65,7 +67,7 @@ kinds-deep {d = d} h (link {r = r} l u c) = rw (ne-eqb (r .depth) d (λ (q : r .
 
 -- a row without a default
 pub plain-strings : (r : Row) → r .default ≡ [] → goodText (r .kind) (r .text) ≡ true → goodStrings r ≡ true
-unfolding goodStrings isEmpty
+unfolding goodStrings goodDefault isEmpty
 plain-strings r d t = rw (d, t)
 
 -- a row with the rows under it
@@ -90,20 +92,36 @@ good-append {ys = ys} (link {r = r} {rs = rs} l u c) d f g =
     let z = and-true (goodRow r rs) (goodRows rs) f in
     and-intro (goodRow r (rs ++ ys)) (goodRows (rs ++ ys)) (row-behind r rs l d ∙ z .0) (good-append c d (z .1) g)
 
--- ---- trees of depth e, whose first rows are of kinds that pass a test; positions lie below n
+-- ---- where a row stands in the text
 
-pub record Rows (n e : ℕ) (test : Kind → Bool) (rs : List Row) : Type 0 where
+-- a row's default is written there, at the position that the row keeps
+pub record Written (t : List ℕ) (r : Row) : Type 0 where
+  pub within : r .size < length t
+  pub is : r .default ≡ writtenAt t (r .size)
+
+pub record Placed (t : List ℕ) (r : Row) : Type 0 where
+  pub position : r .position < length t
+  pub default : isEmpty (r .default) ≡ false → Written t r
+
+-- a row without a default
+pub plain-placed : {t : List ℕ} (r : Row) → r .default ≡ [] → r .position < length t → Placed t r
+unfolding isEmpty
+plain-placed r d p = record { position = p; default = λ h. never (sym h ∙ ap isEmpty d) }
+
+-- ---- trees of depth e, whose first rows are of kinds that pass a test; the rows stand in t
+
+pub record Rows (t : List ℕ) (e : ℕ) (test : Kind → Bool) (rs : List Row) : Type 0 where
   pub chain : Chain e e rs
   pub good : goodRows rs ≡ true
   pub tops : every test (kindsAt e rs) ≡ true
-  pub placed : All (λ r. r .position < n) rs
+  pub placed : All (Placed t) rs
 
-module _ {n e : ℕ} {test : Kind → Bool} where
-  pub rows-none : Rows n e test []
+module _ {t : List ℕ} {e : ℕ} {test : Kind → Bool} where
+  pub rows-none : Rows t e test []
   unfolding goodRows kindsAt every
   rows-none = record { chain = end; good = refl; tops = refl; placed = nil }
 
-  pub rows-append : {xs ys : List Row} → Rows n e test xs → Rows n e test ys → Rows n e test (xs ++ ys)
+  pub rows-append : {xs ys : List Row} → Rows t e test xs → Rows t e test ys → Rows t e test (xs ++ ys)
   rows-append {xs} {ys} a b = record {
     chain = chain-append (omega arith) (a .chain) (b .chain);
     good = good-append (a .chain) (b .chain) (a .good) (b .good);
@@ -112,7 +130,7 @@ module _ {n e : ℕ} {test : Kind → Bool} where
   }
 
 -- a weaker test
-pub rows-weaken : {n e : ℕ} {test other : Kind → Bool} {rs : List Row} → ((k : Kind) → test k ≡ true → other k ≡ true) → Rows n e test rs → Rows n e other rs
+pub rows-weaken : {t : List ℕ} {e : ℕ} {test other : Kind → Bool} {rs : List Row} → ((k : Kind) → test k ≡ true → other k ≡ true) → Rows t e test rs → Rows t e other rs
 unfolding every
 rows-weaken {e = e} {test = test} {other = other} {rs = rs} h a = record { chain = a .chain; good = a .good; tops = go (kindsAt e rs) (a .tops); placed = a .placed }
   where
@@ -123,13 +141,13 @@ rows-weaken {e = e} {test = test} {other = other} {rs = rs} h a = record { chain
         and-intro (other k) (every other ks) (h k (z .0)) (go ks (z .1))
 
 -- another test of one tree
-pub rows-retop : {n e : ℕ} {test : Kind → Bool} (other : Kind → Bool) {k : Kind} {rs : List Row} → Rows n e test rs → kindsAt e rs ≡ k ∷ [] → other k ≡ true → Rows n e other rs
+pub rows-retop : {t : List ℕ} {e : ℕ} {test : Kind → Bool} (other : Kind → Bool) {k : Kind} {rs : List Row} → Rows t e test rs → kindsAt e rs ≡ k ∷ [] → other k ≡ true → Rows t e other rs
 unfolding every
 rows-retop other a e h = record { chain = a .chain; good = a .good; tops = rw (e, h); placed = a .placed }
 
 -- one tree
-pub rows-tree : {n e : ℕ} {test below : Kind → Bool} (r : Row) {kids : List Row} → r .depth ≡ e → test (r .kind) ≡ true → r .position < n
-    → goodRow r kids ≡ true → Rows n (e + 1) below kids → Rows n e test (r ∷ kids)
+pub rows-tree : {t : List ℕ} {e : ℕ} {test below : Kind → Bool} (r : Row) {kids : List Row} → r .depth ≡ e → test (r .kind) ≡ true → Placed t r
+    → goodRow r kids ≡ true → Rows t (e + 1) below kids → Rows t e test (r ∷ kids)
 unfolding goodRows kindsAt every
 rows-tree {e = e} r {kids = kids} d k p g b = record {
   chain = link {m = e} {r = r} (omega arith) (omega arith) (chain-fit (b .chain) (omega arith) (omega arith));
@@ -153,7 +171,7 @@ chain-tops {e = e} test (link {r = r} {rs = rs} l u c) f = go (eqb (r .depth) e)
     go true q g h = let z = and-true (test (r .kind)) (every test (kindsAt e rs)) g in cons (record { deep = l; top = λ x. z .0 }) (h (z .1))
     go false q g h = cons (record { deep = l; top = λ x. absurd (eqb-false (r .depth) e q x) }) (h g)
 
-pub rows-tops : {n e : ℕ} {test : Kind → Bool} {rs : List Row} → Rows n e test rs → All (Top e test) rs
+pub rows-tops : {t : List ℕ} {e : ℕ} {test : Kind → Bool} {rs : List Row} → Rows t e test rs → All (Top e test) rs
 rows-tops {test = test} a = chain-tops test (a .chain) (a .tops)
 
 -- one tree of depth 0 whose first row is a schema

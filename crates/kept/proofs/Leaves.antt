@@ -24,23 +24,23 @@ use Rattle.schema.specs.Schema.{rowWith, row, aliasRows, fieldAliasRows, symbol
 use Rattle.resolve.specs.Kinds.{isKind, isPartOf, hasOne, isAliasOf, isDefinition, past, bodyFits, partsFit}
 use Rattle.resolve.specs.Rules.{goodText, goodNumbers, kindsAt, clash, sameSymbol, noTwo}
 use Rattle.kept.proofs.Lists.{All, nil, cons, all-map, Misses, two-nil, two-cons}
-use Rattle.kept.proofs.Forest.{end, Rows, plain-strings, good-row, rows-none, rows-append, rows-tree}
+use Rattle.kept.proofs.Forest.{end, Rows, plain-strings, plain-placed, good-row, rows-none, rows-append, rows-tree}
 use Rattle.kept.proofs.Passed.{must-true, then-fine, read-same, after-read, both-read, each-rows, each-all}
 use Rattle.kept.proofs.Numbers.{plain-numbers}
 use Rattle.kept.proofs.Texts.{simple-own, alias-free, free-text, own-text}
 use Rattle.kept.proofs.Meets.{one-of-head, one-of-tail, one-of-front, one-of-behind, symbol-new}
 
 -- a row with nothing under it
-pub leaf : {n e : ℕ} {test : Kind → Bool} (r : Row) → r .depth ≡ e → test (r .kind) ≡ true → r .position < n → r .default ≡ [] → goodText (r .kind) (r .text) ≡ true → goodNumbers r ≡ true
-    → partsFit (r .kind) [] ≡ true → Rows n e test (r ∷ [])
+pub leaf : {t : List ℕ} {e : ℕ} {test : Kind → Bool} (r : Row) → r .depth ≡ e → test (r .kind) ≡ true → r .position < length t → r .default ≡ [] → goodText (r .kind) (r .text) ≡ true → goodNumbers r ≡ true
+    → partsFit (r .kind) [] ≡ true → Rows t e test (r ∷ [])
 unfolding kindsAt
-leaf r d k p e t n f = rows-tree {below = λ j. true} r d k p (good-row r {m = 0} end (plain-strings r e t) n f (two-nil (clash (r .kind) (r .depth)))) rows-none
+leaf r d k p e s n f = rows-tree {below = λ j. true} r d k (plain-placed r e p) (good-row r {m = 0} end (plain-strings r e s) n f (two-nil (clash (r .kind) (r .depth)))) rows-none
 
 module _ (t : List ℕ) (short : length t ≤ longest) where
   -- ---- aliases
 
   module _ (namespace : List ℕ) (n : isNamespace namespace ≡ true) (d : ℕ) where
-    alias-rows : (q : ℕ) (rs : List Row) → aliasRows t namespace d q ≡ read rs → Rows (length t) d (isKind Alias) rs
+    alias-rows : (q : ℕ) (rs : List Row) → aliasRows t namespace d q ≡ read rs → Rows t d (isKind Alias) rs
     unfolding aliasRows isKind isDefinition partsFit bodyFits past every hasOne isAliasOf isPartOf
     alias-rows q rs e =
         let z = after-read (aliasCheck t namespace q) _ e in
@@ -53,7 +53,7 @@ module _ (t : List ℕ) (short : length t ≤ longest) where
     unfolding aliasRows isKind
     alias-kind q rs e = let z = after-read (aliasCheck t namespace q) _ e in rw (sym (read-same (z .1))) (cons refl nil)
 
-    pub aliases-rows : (qs : List ℕ) {rs : List Row} → each (aliasRows t namespace d) qs ≡ read rs → Rows (length t) d (isKind Alias) rs
+    pub aliases-rows : (qs : List ℕ) {rs : List Row} → each (aliasRows t namespace d) qs ≡ read rs → Rows t d (isKind Alias) rs
     aliases-rows = each-rows (aliasRows t namespace d) alias-rows
 
     pub aliases-kind : (qs : List ℕ) {rs : List Row} → each (aliasRows t namespace d) qs ≡ read rs → All (λ r. isKind Alias (r .kind) ≡ true) rs
@@ -62,7 +62,7 @@ module _ (t : List ℕ) (short : length t ≤ longest) where
   -- ---- field aliases
 
   module _ (d : ℕ) where
-    field-alias-rows : (q : ℕ) (rs : List Row) → fieldAliasRows t d q ≡ read rs → Rows (length t) d (isKind FieldAlias) rs
+    field-alias-rows : (q : ℕ) (rs : List Row) → fieldAliasRows t d q ≡ read rs → Rows t d (isKind FieldAlias) rs
     unfolding fieldAliasRows isKind isDefinition partsFit bodyFits past every hasOne isAliasOf isPartOf
     field-alias-rows q rs e =
         let z = after-read (simpleCheck t q) _ e in
@@ -71,7 +71,7 @@ module _ (t : List ℕ) (short : length t ≤ longest) where
         rw (sym (read-same (z .1)))
         (leaf (rowWith FieldAlias d q (stringAt t q) 0 (noted 0)) refl refl w refl (own-text FieldAlias refl refl refl o) (plain-numbers FieldAlias d q _ (omega arith)) refl)
 
-    pub field-aliases-rows : (qs : List ℕ) {rs : List Row} → each (fieldAliasRows t d) qs ≡ read rs → Rows (length t) d (isKind FieldAlias) rs
+    pub field-aliases-rows : (qs : List ℕ) {rs : List Row} → each (fieldAliasRows t d) qs ≡ read rs → Rows t d (isKind FieldAlias) rs
     field-aliases-rows = each-rows (fieldAliasRows t d) field-alias-rows
 
     -- their strings are those at the places
@@ -88,11 +88,11 @@ module _ (t : List ℕ) (short : length t ≤ longest) where
   -- ---- symbols, and 14
 
   pub record Symbols (d : ℕ) (taken : List (List ℕ)) (rs : List Row) : Type 0 where
-    pub rows : Rows (length t) (d + 1) (isKind Symbol) rs
+    pub rows : Rows t (d + 1) (isKind Symbol) rs
     pub missed : (a : Row) → isOneOf taken (a .text) ≡ true → Misses (sameSymbol d) a rs
     pub apart : noTwo (sameSymbol d) rs ≡ true
 
-  symbol-rows : (d q : ℕ) → simpleCheck t q ≡ Fine → Rows (length t) (d + 1) (isKind Symbol) (row Symbol (d + 1) q (stringAt t q))
+  symbol-rows : (d q : ℕ) → simpleCheck t q ≡ Fine → Rows t (d + 1) (isKind Symbol) (row Symbol (d + 1) q (stringAt t q))
   unfolding isKind isDefinition partsFit bodyFits past every hasOne isAliasOf isPartOf
   symbol-rows d q e =
       let o = simple-own t q e in

@@ -8,6 +8,7 @@ pub mod Lists
 mod Passed
 mod Numbers
 mod Texts
+mod Defaults
 mod Fits
 mod Leaves
 mod Records

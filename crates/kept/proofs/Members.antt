@@ -24,6 +24,7 @@ use Rattle.form.specs.Notes.{noted}
 use Rattle.rules.specs.Unions.{Head, unnamed, clash as clashes, headOf, before, isNew, isUnion, unionCheck}
 use Rattle.schema.specs.Out.{Out, read, each}
 use Rattle.schema.specs.Schema.{rowWith, Around, asMember, unionRows}
+use Rattle.fuel.proofs.Deep.{Deep, Opens, deep-less, deep-within, deep-elements}
 use Rattle.resolve.specs.Kinds.{isKind, isPrimitive, isDefinition, isNamed, isSchema, hasOne, isPartOf}
 use Rattle.resolve.specs.Rules.{goodText, kindsAt, noTwo, sameMember, clash}
 use Rattle.kept.proofs.Lists.{All, nil, cons, all-append, all-map, all-any, Misses, Unmet, unmet-misses, two-nil, two-cons, two-front}
@@ -69,7 +70,7 @@ member-passed t namespace u q h ps qs e c =
     (z .0, rw b at (z .1))
 
 record Among (t namespace : List ℕ) (d : ℕ) (ps : List ℕ) (rs : List Row) : Type 0 where
-  rows : Rows (length t) (d + 1) (isPartOf Union) rs
+  rows : Rows t (d + 1) (isPartOf Union) rs
   missed : (a : Row) → ((h : Head) → isNew t namespace h ps ≡ true → clashes (rowHead a) h ≡ false) → Misses (sameMember d) a rs
   apart : noTwo (sameMember d) rs ≡ true
 
@@ -98,22 +99,23 @@ module _ (t : List ℕ) (a : Around) (d u : ℕ) where
       })
 
   module _ (schema : Around → ℕ → ℕ → Out) (good : isNamespace (a .namespace) ≡ true)
-      (reads : (b : Around) → isNamespace (b .namespace) ≡ true → (e q : ℕ) (rs : List Row) → schema b e q ≡ read rs → Schema t b e (formOf t q) rs) where
-    members-apart : (ps qs : List ℕ) {rs : List Row} → elements t u ≡ ps ++ qs → each (λ q. schema (asMember a u q) (d + 1) q) qs ≡ read rs → Among t (a .namespace) d ps rs
+      (reads : (b : Around) → isNamespace (b .namespace) ≡ true → (e q : ℕ) → Deep t 0 q → (rs : List Row) → schema b e q ≡ read rs → Schema t b e (formOf t q) rs) where
+    members-apart : (ps qs : List ℕ) {rs : List Row} → elements t u ≡ ps ++ qs → Each (Deep t 1) qs → each (λ q. schema (asMember a u q) (d + 1) q) qs ≡ read rs → Among t (a .namespace) d ps rs
     unfolding each
-    members-apart ps [] el e = rw (sym (read-same e)) (record { rows = rows-none; missed = λ b h. nil; apart = two-nil (sameMember d) })
-    members-apart ps (q ∷ qs) el e =
+    members-apart ps [] el i e = rw (sym (read-same e)) (record { rows = rows-none; missed = λ b h. nil; apart = two-nil (sameMember d) })
+    members-apart ps (q ∷ qs) el i e =
         let z = both-read (schema (asMember a u q) (d + 1) q) (each (λ q. schema (asMember a u q) (d + 1) q) qs) e in
         rw (z .is)
-        (member-apart q ps qs el (reads (asMember a u q) good (d + 1) q (z .front) (z .first))
-        (members-apart (ps ++ (q ∷ [])) qs (el ∙ sym (append-assoc ps (q ∷ []) qs)) (z .second)))
+        (member-apart q ps qs el (reads (asMember a u q) good (d + 1) q (deep-less (i .0)) (z .front) (z .first))
+        (members-apart (ps ++ (q ∷ [])) qs (el ∙ sym (append-assoc ps (q ∷ []) qs)) (i .1) (z .second)))
 
-    pub union-schema : length t ≤ longest → (f : Form) → u < length t → headOf t (a .namespace) f ≡ unnamed Union → {rs : List Row} → unionRows schema t a d u ≡ read rs → Schema t a d f rs
+    pub union-schema : length t ≤ longest → (f : Form) → Opens t 0 91 u → headOf t (a .namespace) f ≡ unnamed Union → {rs : List Row} → unionRows schema t a d u ≡ read rs → Schema t a d f rs
     unfolding unionRows isSchema isPrimitive isNamed isDefinition isKind goodText isEmpty hasOne clash every
-    union-schema short f w heads e =
+    union-schema short f o heads e =
+        let w = deep-within (o .deep) in
         let y = after-read (unionCheck t (a .namespace) (a .standing) (unnamed Union)) _ e in
         let z = rows-read (rowWith Union d u [] 0 (noted 0) ∷ []) _ (y .1) in
-        let m = members-apart [] (elements t u) refl (z .reads) in
+        let m = members-apart [] (elements t u) refl (deep-elements t 0 u o) (z .reads) in
         let he = head-unnamed (rowWith Union d u [] 0 (noted 0)) refl in
         rw (z .is)
         (schema-tree t a f Union d u [] 0 (noted 0) refl w refl (plain-numbers Union d u [] (omega arith)) (any-rows (m .rows))

@@ -11,6 +11,7 @@ use borrow.Author.Tests.{eqb-false, eqb-true, le-leb, le-ltb, lt-ltb, ltb-true, 
 use Rattle.ground.specs.Bytes.{byteAt}
 use Rattle.ground.proofs.Laws.{never}
 use Rattle.decimals.specs.Limits.{limitOf}
+use Rattle.name.specs.Name.{isEmpty}
 use Rattle.json.specs.Json.{isDigit, longest}
 use Rattle.row.specs.declared.kind.Kind.{Kind}
 use Rattle.row.specs.declared.kind.Kind.the-variants.{Bytes, Fixed}
@@ -159,7 +160,7 @@ decimal-good o n g = go (eqb (n .note) 1) refl
 module _ (k : Kind) (d p : ℕ) (s : List ℕ) (n : Note) (below : p < longest) (g : Noted over.Bytes n) where
   -- a row that is no fixed
   pub numbers-good : isKind Fixed k ≡ false → (isKind Bytes k ≡ false → n .note ≡ 0) → goodNumbers (rowWith k d p s 0 n) ≡ true
-  unfolding goodNumbers goodSize goodNote goodPrecision
+  unfolding goodNumbers goodSize goodNote goodPrecision isEmpty
   numbers-good f h = rw (lt-ltb p longest below, f, note-fits (isKind Bytes k) refl, decimal-good over.Bytes n g)
     where
       note-fits : (x : Bool) → isKind Bytes k ≡ x → cond x (leb (n .note) 6) (eqb (n .note) 0) ≡ true
@@ -174,7 +175,7 @@ fixed-numbers d p s size n below h g =
 
 -- no note
 pub plain-numbers : (k : Kind) (d p : ℕ) (s : List ℕ) → p < longest → goodNumbers (rowWith k d p s 0 (noted 0)) ≡ true
-unfolding goodNumbers goodSize goodNote goodPrecision goodDecimal limitOf
+unfolding goodNumbers goodSize goodNote goodPrecision goodDecimal limitOf isEmpty
 plain-numbers k d p s h = rw (lt-ltb p longest h) (go (isKind Fixed k) (isKind Bytes k))
   where
     go : (x y : Bool) → (cond x (ltb 0 (2 ^ 64)) (eqb 0 0) && cond x (leb 0 7) (cond y (leb 0 6) (eqb 0 0)) && cond x (leb 0 0) true && true) ≡ true

@@ -86,8 +86,8 @@ size-read (Value v) f x e = record { size = v; value = refl; reads = e }
 size-read NoSize f x e = unread e
 
 -- what was read at each place
-pub each-rows : {n e : ℕ} {test : Kind → Bool} (reads : ℕ → Out) → ((p : ℕ) (rs : List Row) → reads p ≡ read rs → Rows n e test rs)
-    → (ps : List ℕ) {rs : List Row} → each reads ps ≡ read rs → Rows n e test rs
+pub each-rows : {t : List ℕ} {e : ℕ} {test : Kind → Bool} (reads : ℕ → Out) → ((p : ℕ) (rs : List Row) → reads p ≡ read rs → Rows t e test rs)
+    → (ps : List ℕ) {rs : List Row} → each reads ps ≡ read rs → Rows t e test rs
 unfolding each
 each-rows reads h [] e = rw (sym (read-same e)) rows-none
 each-rows reads h (p ∷ ps) e =

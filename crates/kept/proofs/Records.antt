@@ -18,7 +18,9 @@ use Rattle.view.specs.Size.{sizeOf}
 use Rattle.view.specs.Strings.{stringAt}
 use Rattle.view.specs.Members.{membersOf}
 use Rattle.view.specs.declared.space.Spot.{Spot}
+use Rattle.view.specs.declared.space.Spot.the-variants.{At}
 use Rattle.view.specs.declared.members.Members.{Members}
+use Rattle.view.proofs.Laws.{All as Each}
 use Rattle.form.specs.declared.check.Check.the-variants.{Fine}
 use Rattle.form.specs.declared.forms.Form.{Form}
 use Rattle.form.specs.Checks.{fault, must, _then_, eachOf}
@@ -30,62 +32,67 @@ use Rattle.rules.specs.Fields.{fieldNameAt, fieldName, takenBy, fieldNamesCheck
 use Rattle.rules.specs.Symbols.{symbolsNew, symbolsCheck, defaultCheck}
 use Rattle.rules.specs.Unions.{definitionHead, headOf}
 use Rattle.schema.specs.Out.{Out, read, after, no as fail, each}
-use Rattle.schema.specs.Schema.{rowWith, row, Around, within, fieldAliasRows, fieldRows, fieldsRows, recordRows, symbolRows, enumRows, fixedRows}
-use Rattle.resolve.specs.Kinds.{isKind, isDefinition, isPartOf, partsFit}
+use Rattle.schema.specs.Schema.{Around, within, fieldAliasRows, fieldRow, keptCheck, fieldRows, fieldsRows, recordRows, symbolRows, enumRows, fixedRows}
+use Rattle.fuel.proofs.Deep.{Deep, Opens, deep-any}
+use Rattle.fuel.proofs.Forms.{typed-deep}
+use Rattle.resolve.specs.Kinds.{isKind, isPartOf, partsFit}
 use Rattle.resolve.specs.Rules.{kindsAt, noTwo, takesName, sameSymbol, clash}
 use Rattle.kept.proofs.Lists.{All, nil, cons, all-append, all-map, all-any, kinds-append, Misses, Unmet, unmet-misses, two-nil, two-cons, two-front, two-never}
-use Rattle.kept.proofs.Forest.{Rows, plain-strings, good-row, rows-none, rows-append, rows-weaken, rows-tree, rows-tops}
+use Rattle.kept.proofs.Forest.{Rows, good-row, rows-none, rows-append, rows-weaken, rows-tree, rows-tops}
 use Rattle.kept.proofs.Passed.{must-true, then-fine, after-read, rows-read, both-read, spot-read, size-read, read-same}
 use Rattle.kept.proofs.Numbers.{size-small, note-good, plain-numbers, fixed-numbers}
-use Rattle.kept.proofs.Texts.{Own, simple-own, own-text}
+use Rattle.kept.proofs.Texts.{Own, simple-own}
+use Rattle.kept.proofs.Defaults.{Default, default-read, field-strings, field-numbers, field-placed}
 use Rattle.kept.proofs.Fits.{field-fits}
 use Rattle.kept.proofs.Meets.{one-of-front, one-of-behind, one-of-head, one-of-tail, name-unmet, name-quiet, name-new, alias-quiet, alias-unmet, symbol-quiet, symbol-unmet}
 use Rattle.kept.proofs.Leaves.{field-aliases-rows, field-aliases-texts, symbols-apart}
 use Rattle.kept.proofs.Schemas.{any-rows, Schema, schema-kinds, record-defines, enum-defines, fixed-defines, Body, definition-schema}
 
--- ---- a field that was read: its row, its aliases, its type
+-- ---- a field that was read: its row with its default, its aliases, its type
 
 record FieldOf (t : List ℕ) (d f : ℕ) (rs : List Row) : Type 0 where
   place : ℕ
   named : fieldNameAt t f ≡ place
   own : Own t place
+  default : Default t (membersOf t f .default)
   front : List Row
   aliases : each (fieldAliasRows t (d + 1)) (aliasesIn t (membersOf t f .aliases)) ≡ read front
   around : Around
   form : Form
   types : List Row
   typed : Schema t around (d + 1) form types
-  is : rs ≡ rowWith Field d place (stringAt t place) 0 (noted 0) ∷ (front ++ types)
+  is : rs ≡ fieldRow t d place (membersOf t f .default) ∷ (front ++ types)
 
 -- ---- 11
 
 record Fields (t : List ℕ) (d : ℕ) (taken : List (List ℕ)) (rs : List Row) : Type 0 where
-  rows : Rows (length t) (d + 1) (isKind Field) rs
+  rows : Rows t (d + 1) (isKind Field) rs
   missed : (a : Row) → isOneOf taken (a .text) ≡ true → Misses (takesName d) a rs
   apart : noTwo (takesName d) rs ≡ true
 
 module _ (t : List ℕ) (short : length t ≤ longest) where
   field-tree : {d f : ℕ} {rs : List Row} (h : FieldOf t d f rs)
-      → Rows (length t) d (isKind Field) (rowWith Field d (h .place) (stringAt t (h .place)) 0 (noted 0) ∷ (h .front ++ h .types))
-  unfolding isKind isDefinition clash
+      → Rows t d (isKind Field) (fieldRow t d (h .place) (membersOf t f .default) ∷ (h .front ++ h .types))
+  unfolding fieldRow isKind clash
   field-tree {d = d} {f = f} h =
-      let r = rowWith Field d (h .place) (stringAt t (h .place)) 0 (noted 0) in
+      let s = membersOf t f .default in
+      let r = fieldRow t d (h .place) s in
       let w = h .own .within in
       let al = field-aliases-rows t short (d + 1) (aliasesIn t (membersOf t f .aliases)) (h .aliases) in
       let kids = rows-append (any-rows al) (any-rows (h .typed .rows)) in
       let fits : partsFit Field (kindsAt (d + 1) (h .front ++ h .types)) ≡ true =
       rw (kinds-append (d + 1) (h .front) (h .types), schema-kinds (h .typed)) (field-fits (kindsAt (d + 1) (h .front)) (h .typed .root .kind) (al .tops) (h .typed .kind)) in
-      rows-tree r refl refl w
-      (good-row r (kids .chain) (plain-strings r refl (own-text Field refl refl refl (h .own))) (plain-numbers Field d (h .place) _ (omega arith)) fits (two-never (clash Field d) (λ a b. refl) (h .front ++ h .types)))
+      rows-tree r refl refl (field-placed t d (h .place) w s (h .default))
+      (good-row r (kids .chain) (field-strings t d (h .place) s (h .default) (h .own)) (field-numbers t d (h .place) short w s (h .default)) fits (two-never (clash Field d) (λ a b. refl) (h .front ++ h .types)))
       kids
 
   -- a field in front of fields, and the names that were taken before it
   field-apart : (d f : ℕ) (taken : List (List ℕ)) {xs ys : List Row} → FieldOf t (d + 1) f xs → isOneOf taken (fieldName t f) ≡ false → Fields t d (taken ++ takenBy t f) ys
       → Fields t d taken (xs ++ ys)
-  unfolding takenBy
+  unfolding takenBy fieldRow
   field-apart d f taken {ys = ys} h new rest =
       let q = h .place in
-      let r = rowWith Field (d + 1) q (stringAt t q) 0 (noted 0) in
+      let r = fieldRow t (d + 1) q (membersOf t f .default) in
       let named : fieldName t f ≡ stringAt t q = ap (stringAt t) (h .named) in
       let qs = aliasesIn t (membersOf t f .aliases) in
       let strings = map (stringAt t) qs in
@@ -106,46 +113,48 @@ module _ (t : List ℕ) (short : length t ≤ longest) where
         apart = two-cons (takesName d) r (all-append (unmet-misses (takesName d) r unmet) (rest .missed r mine)) (two-front (takesName d) unmet miss (rest .apart));
       })
 
-  module _ (schema : ℕ → ℕ → Out) (b : Around) (ff : ℕ → Form) (reads : (e q : ℕ) (rs : List Row) → schema e q ≡ read rs → Schema t b e (ff q) rs) where
-    field-of : (d f : ℕ) {rs : List Row} → fieldRows schema t d f ≡ read rs → FieldOf t d f rs
+  module _ (schema : ℕ → ℕ → Out) (b : Around) (ff : ℕ → Form) (reads : (e q : ℕ) → Deep t 0 q → (rs : List Row) → schema e q ≡ read rs → Schema t b e (ff q) rs) where
+    field-of : (d f : ℕ) {rs : List Row} → Opens t 2 123 f → fieldRows schema t d f ≡ read rs → FieldOf t d f rs
     unfolding fieldRows fieldNameAt
-    field-of d f e =
+    field-of d f o e =
         let m = membersOf t f in
         let s = spot-read (asText t (m .name)) _ _ e in
         let q = s .place in
         let x = after-read (simpleCheck t q) _ (s .reads) in
-        let y = rows-read (row Field d q (stringAt t q)) _ (x .1) in
+        let y = rows-read (fieldRow t d q (m .default) ∷ []) _ (x .1) in
         let z = both-read (each (fieldAliasRows t (d + 1)) (aliasesIn t (m .aliases))) _ (y .reads) in
-        let v = spot-read (m .typed) (schema (d + 1)) _ (z .second) in
+        let k = after-read (keptCheck t (m .default)) _ (z .second) in
+        let v = spot-read (m .typed) (schema (d + 1)) _ (k .1) in
         record {
           place = q;
           named = ap (λ (x : Spot). onSpot x (λ v. v) f) (s .at);
           own = simple-own t q (x .0);
+          default = default-read o (k .0);
           front = z .front;
           aliases = z .first;
           around = b;
           form = ff (v .place);
           types = z .behind;
-          typed = reads (d + 1) (v .place) (z .behind) (v .reads);
-          is = y .is ∙ ap (λ (l : List Row). rowWith Field d q (stringAt t q) 0 (noted 0) ∷ l) (z .is);
+          typed = reads (d + 1) (v .place) (deep-any (typed-deep t 2 f o (v .place) (v .at))) (z .behind) (v .reads);
+          is = y .is ∙ ap (λ (l : List Row). fieldRow t d q (m .default) ∷ l) (z .is);
         }
 
-    fields-apart : (d : ℕ) (taken : List (List ℕ)) (fs : List ℕ) {rs : List Row} → fieldNamesCheck t taken fs ≡ Fine → each (fieldRows schema t (d + 1)) fs ≡ read rs → Fields t d taken rs
+    fields-apart : (d : ℕ) (taken : List (List ℕ)) (fs : List ℕ) {rs : List Row} → Each (Opens t 2 123) fs → fieldNamesCheck t taken fs ≡ Fine → each (fieldRows schema t (d + 1)) fs ≡ read rs → Fields t d taken rs
     unfolding fieldNamesCheck each
-    fields-apart d taken [] c e = rw (sym (read-same e)) (record { rows = rows-none; missed = λ a h. nil; apart = two-nil (takesName d) })
-    fields-apart d taken (f ∷ fs) c e =
+    fields-apart d taken [] o c e = rw (sym (read-same e)) (record { rows = rows-none; missed = λ a h. nil; apart = two-nil (takesName d) })
+    fields-apart d taken (f ∷ fs) o c e =
         let y = then-fine (must (not (isOneOf taken (fieldName t f))) (fault FieldNameTaken (fieldNameAt t f))) (fieldNamesCheck t (taken ++ takenBy t f) fs) c in
         let z = both-read (fieldRows schema t (d + 1) f) (each (fieldRows schema t (d + 1)) fs) e in
         rw (z .is)
-        (field-apart d f taken (field-of (d + 1) f (z .first)) (not-true (isOneOf taken (fieldName t f)) (must-true (not (isOneOf taken (fieldName t f))) _ (y .0)))
-        (fields-apart d (taken ++ takenBy t f) fs (y .1) (z .second)))
+        (field-apart d f taken (field-of (d + 1) f (o .0) (z .first)) (not-true (isOneOf taken (fieldName t f)) (must-true (not (isOneOf taken (fieldName t f))) _ (y .0)))
+        (fields-apart d (taken ++ takenBy t f) fs (o .1) (y .1) (z .second)))
 
-    fields-body : (d : ℕ) (fs : List ℕ) {rs : List Row} → fieldsRows schema t (d + 1) fs ≡ read rs → Body t Record d rs
+    fields-body : (d : ℕ) (fs : List ℕ) {rs : List Row} → Each (Opens t 2 123) fs → fieldsRows schema t (d + 1) fs ≡ read rs → Body t Record d rs
     unfolding fieldsRows isPartOf isKind clash
-    fields-body d fs e =
+    fields-body d fs o e =
         let z = both-read (each (fieldRows schema t (d + 1)) fs) _ e in
         let x = after-read (fieldNamesCheck t [] fs) (read []) (z .second) in
-        let h = fields-apart d [] fs (x .0) (z .first) in
+        let h = fields-apart d [] fs o (x .0) (z .first) in
         rw (z .is, sym (read-same (x .1)), append-nil (z .front))
         (record {
           rows = rows-weaken (λ k u. u) (h .rows);
@@ -156,12 +165,13 @@ module _ (t : List ℕ) (short : length t ≤ longest) where
 
   module _ (a : Around) (good : isNamespace (a .namespace) ≡ true) (f : Form) (d p : ℕ) (m : Members) (heads : headOf t (a .namespace) f ≡ definitionHead t (a .namespace) m) where
     module _ (schema : Around → ℕ → ℕ → Out) (ff : ℕ → Form)
-        (reads : (b : Around) → isNamespace (b .namespace) ≡ true → (e q : ℕ) (rs : List Row) → schema b e q ≡ read rs → Schema t b e (ff q) rs) where
+        (reads : (b : Around) → isNamespace (b .namespace) ≡ true → (e q : ℕ) → Deep t 0 q → (rs : List Row) → schema b e q ≡ read rs → Schema t b e (ff q) rs)
+        (opened : (v : ℕ) → asArray t (m .fields) ≡ At v → Each (Opens t 2 123) (fieldsIn t v)) where
       record-body : (own : List ℕ) → isNamespace own ≡ true → (ys : List Row)
           → onSpot (asArray t (m .fields)) (λ v. fieldsRows (schema (within own)) t (d + 1) (fieldsIn t v)) (fail FieldsMissing p) ≡ read ys → Body t Record d ys
       record-body own ow ys e =
           let s = spot-read (asArray t (m .fields)) _ _ e in
-          fields-body (schema (within own)) (within own) ff (reads (within own) ow) d (fieldsIn t (s .place)) (s .reads)
+          fields-body (schema (within own)) (within own) ff (reads (within own) ow) d (fieldsIn t (s .place)) (opened (s .place) (s .at)) (s .reads)
 
       pub record-schema : {rs : List Row} → recordRows schema t a d p m ≡ read rs → Schema t a d f rs
       unfolding recordRows

@@ -30,11 +30,12 @@ use Rattle.form.specs.declared.note.Plain.the-variants as over
 use Rattle.form.specs.Notes.{noted, noteOf}
 use Rattle.rules.specs.Unions.{unnamed, called, wordHead, definitionHead, headOf, unionCheck}
 use Rattle.schema.specs.Out.{Out, refused, read, each}
-use Rattle.schema.specs.Schema.{rowWith, row, Around, within, aliasRows, referenceRows, primitiveRows, wordRows, definitionRows, definition, partRows}
+use Rattle.schema.specs.Schema.{rowWith, Around, within, aliasRows, referenceRows, primitiveRows, wordRows, definitionRows, definition, partRows}
+use Rattle.fuel.proofs.Deep.{Deep, deep-less}
 use Rattle.resolve.specs.Kinds.{isKind, isPrimitive, isDefinition, isNamed, isSchema, isAliasOf, hasOne, isPartOf, past, bodyFits, partsFit}
 use Rattle.resolve.specs.Rules.{goodText, goodNumbers, kindsAt, noTwo, clash}
 use Rattle.kept.proofs.Lists.{All, kinds-append, two-nil, two-never}
-use Rattle.kept.proofs.Forest.{Rows, plain-strings, good-row, rows-none, rows-append, rows-weaken, rows-tree, kinds-deep}
+use Rattle.kept.proofs.Forest.{Rows, plain-strings, plain-placed, good-row, rows-none, rows-append, rows-weaken, rows-tree, kinds-deep}
 use Rattle.kept.proofs.Passed.{after-read, rows-read, both-read, spot-read, read-same}
 use Rattle.kept.proofs.Numbers.{Noted, noted-plain, note-good, numbers-good, plain-numbers}
 use Rattle.kept.proofs.Texts.{reference-named, reference-text, definition-free, own-namespace, free-text, word-within}
@@ -47,7 +48,7 @@ use Rattle.kept.proofs.Leaves.{aliases-rows, aliases-kind}
 pub anyKind : Kind → Bool
 anyKind k = true
 
-pub any-rows : {n e : ℕ} {test : Kind → Bool} {rs : List Row} → Rows n e test rs → Rows n e anyKind rs
+pub any-rows : {t : List ℕ} {e : ℕ} {test : Kind → Bool} {rs : List Row} → Rows t e test rs → Rows t e anyKind rs
 unfolding anyKind
 any-rows a = rows-weaken (λ k h. refl) a
 
@@ -58,8 +59,8 @@ pub record Schema (t : List ℕ) (a : Around) (d : ℕ) (f : Form) (rs : List Ro
   pub is : rs ≡ root ∷ kids
   pub depth : root .depth ≡ d
   pub kind : isSchema (root .kind) ≡ true
-  pub rows : Rows (length t) d isSchema rs
-  pub below : Rows (length t) (d + 1) anyKind kids
+  pub rows : Rows t d isSchema rs
+  pub below : Rows t (d + 1) anyKind kids
   pub new : unionCheck t (a .namespace) (a .standing) (rowHead root) ≡ Fine
   pub head : rowHead root ≡ headOf t (a .namespace) f
 
@@ -70,7 +71,7 @@ schema-kinds {d = d} s = rw (s .is, eq-eqb (s .root .depth) d (s .depth), kinds-
 -- by its first row and the rows under it
 module _ (t : List ℕ) (a : Around) (f : Form) (k : Kind) (d p : ℕ) (s : List ℕ) (size : ℕ) (n : Note) where
   pub schema-tree : {kids : List Row} → isSchema k ≡ true → p < length t → goodText k s ≡ true → goodNumbers (rowWith k d p s size n) ≡ true
-      → Rows (length t) (d + 1) anyKind kids → partsFit k (kindsAt (d + 1) kids) ≡ true → noTwo (clash k d) kids ≡ true
+      → Rows t (d + 1) anyKind kids → partsFit k (kindsAt (d + 1) kids) ≡ true → noTwo (clash k d) kids ≡ true
       → unionCheck t (a .namespace) (a .standing) (rowHead (rowWith k d p s size n)) ≡ Fine → rowHead (rowWith k d p s size n) ≡ headOf t (a .namespace) f
       → Schema t a d f (rowWith k d p s size n ∷ kids)
   schema-tree {kids = kids} sc w tx nu b fi ap ne he = record {
@@ -79,7 +80,7 @@ module _ (t : List ℕ) (a : Around) (f : Form) (k : Kind) (d p : ℕ) (s : List
     is = refl;
     depth = refl;
     kind = sc;
-    rows = rows-tree (rowWith k d p s size n) refl sc w (good-row (rowWith k d p s size n) (b .chain) (plain-strings (rowWith k d p s size n) refl tx) nu fi ap) b;
+    rows = rows-tree (rowWith k d p s size n) refl sc (plain-placed (rowWith k d p s size n) refl w) (good-row (rowWith k d p s size n) (b .chain) (plain-strings (rowWith k d p s size n) refl tx) nu fi ap) b;
     below = b;
     new = ne;
     head = he;
@@ -107,7 +108,7 @@ fixed-defines = record { definition = refl; many = refl; schema = refl; named = 
 
 -- what stands behind a definition's aliases
 pub record Body (t : List ℕ) (k : Kind) (d : ℕ) (ys : List Row) : Type 0 where
-  pub rows : Rows (length t) (d + 1) (isPartOf k) ys
+  pub rows : Rows t (d + 1) (isPartOf k) ys
   pub apart : (xs : List Row) → All (λ r. isKind Alias (r .kind) ≡ true) xs → noTwo (clash k d) (xs ++ ys) ≡ true
 
 module _ (t : List ℕ) (short : length t ≤ longest) (a : Around) (good : isNamespace (a .namespace) ≡ true) where
@@ -199,15 +200,15 @@ module _ (t : List ℕ) (short : length t ≤ longest) (a : Around) (good : isNa
   -- ---- arrays and maps, whose part `schema` reads
 
   module _ (f : Form) (schema : Around → ℕ → ℕ → Out) (ff : ℕ → Form)
-      (reads : (b : Around) → isNamespace (b .namespace) ≡ true → (e q : ℕ) (rs : List Row) → schema b e q ≡ read rs → Schema t b e (ff q) rs)
+      (reads : (b : Around) → isNamespace (b .namespace) ≡ true → (e q : ℕ) → Deep t 0 q → (rs : List Row) → schema b e q ≡ read rs → Schema t b e (ff q) rs)
       (k : Kind) (single : Single k) (d p : ℕ) (w : p < length t) (heads : headOf t (a .namespace) f ≡ unnamed k) where
-    pub part-schema : (part : Spot) (x : Fault) {rs : List Row} → partRows schema t a k d p part (refused x) ≡ read rs → Schema t a d f rs
+    pub part-schema : (part : Spot) → ((q : ℕ) → part ≡ At q → Deep t 1 q) → (x : Fault) {rs : List Row} → partRows schema t a k d p part (refused x) ≡ read rs → Schema t a d f rs
     unfolding partRows
-    part-schema part x e =
+    part-schema part i x e =
         let y = after-read (unionCheck t (a .namespace) (a .standing) (unnamed k)) _ e in
         let s = spot-read part _ x (y .1) in
         let z = rows-read (rowWith k d p [] 0 (noted 0) ∷ []) _ (s .reads) in
-        let c = reads (within (a .namespace)) good (d + 1) (s .place) (z .more) (z .reads) in
+        let c = reads (within (a .namespace)) good (d + 1) (s .place) (deep-less (i (s .place) (s .at))) (z .more) (z .reads) in
         let he = head-unnamed (rowWith k d p [] 0 (noted 0)) (single .unnamed) in
         rw (z .is)
         (schema-tree t a f k d p [] 0 (noted 0) (single .schema) w (single .text) (plain-numbers k d p [] (omega arith)) (any-rows (c .rows))
