@@ -1,3 +1,4 @@
 mod RowLaws
 mod TableLaws
 mod FitLaws
+pub mod MisfitLaws

@@ -1,11 +1,14 @@
-// Does a value fit a type? The value is a text of its own, the type a row of a set's memory.
+// Does a value fit a type? The value is a text of its own, the type a row of a set's memory. And which default of a set does not?
 mod leaves;
+mod misfits;
 mod rows;
 mod table;
 mod walk;
 
 use ground::byte_at;
 use json::Scan;
+pub use misfits::first_misfit;
+pub use misfits::has_defaults;
 use table::PLACES;
 use view::find_ends;
 use walk::fits_at;
