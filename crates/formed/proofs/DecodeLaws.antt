@@ -17,8 +17,11 @@ use Rattle.row.specs.Memory.{sizeAt, rowsBefore}
 use Rattle.row.proofs.Laws.{length-encode, count-encode, before-encode, encoding-true}
 use Rattle.resolve.specs.Rules.{isDeclaration}
 use Rattle.resolve.specs.Resolve.{faultIn, isResolved, resolves}
-use Rattle.formed.specs.WellFormed.{keepsRules, wellFormed}
+use Rattle.formed.specs.WellFormed.{defaultsFit, keepsRules, wellFormed}
+use Rattle.fits.specs.Misfits.{misfitIn}
 use Rattle.resolve.specs.declared.Resolution.{Resolution}
+use Rattle.resolve.specs.declared.Resolution.the-variants.{Resolved, Faulty}
+use Rattle.answer.specs.declared.refusal.Fault.{Fault}
 use Rattle.resolve.proofs.MemoryLaws.{rows-none, rows-add, length-rows}
 
 -- ---- k places from p on, whose rows start at s
@@ -69,7 +72,7 @@ before-left : (m : List ℕ) (n : ℕ) → rowsBefore m n ≡ rowsLeft m 0 n
 unfolding rowsBefore rowsLeft sizesIn
 before-left m n = refl
 
--- ---- the turns of are_declarations: n places, p of them passed, whose rows end at s
+-- ---- the turns of are_declarations and of defaults_fit: n places, p of them passed, whose rows end at s
 
 pub places-start : (m : List ℕ) (n : ℕ) → n ≡ countIn m → rowsBefore m n ≤ rowLimit
     → (0 + rowsLeft m 0 (n - 0) ≤ rowLimit) × (every isDeclaration (decode m) ≡ every isDeclaration (left m 0 (n - 0) 0))
@@ -85,10 +88,13 @@ module _ (m : List ℕ) (n p s : ℕ) (l : p < n) (fit : s + rowsLeft m p (n - p
   pub places-fit : s + t + rowsLeft m (p + 1) (n - (p + 1)) ≤ rowLimit
   places-fit = omega (arith, rest)
 
+  first-left : left m p (n - p) s ≡ rowsFrom m t s ∷ left m (p + 1) (n - (p + 1)) (s + t)
+  first-left = let k : n - p ≡ suc (n - (p + 1)) = omega arith in rw (k, e) (left-next m p (n - (p + 1)) s)
+
   module _ (x : Bool) (inv : x ≡ every isDeclaration (left m p (n - p) s)) where
     first : every isDeclaration (left m p (n - p) s) ≡ (isDeclaration (rowsFrom m t s) && every isDeclaration (left m (p + 1) (n - (p + 1)) (s + t)))
     unfolding every
-    first = let k : n - p ≡ suc (n - (p + 1)) = omega arith in rw (k, e, left-next m p (n - (p + 1)) s)
+    first = rw first-left
 
     pub places-bad : isDeclaration (rowsFrom m t s) ≡ false → false ≡ x
     places-bad h = sym (inv ∙ first ∙ rw h)
@@ -99,6 +105,27 @@ module _ (m : List ℕ) (n p s : ℕ) (l : p < n) (fit : s + rowsLeft m p (n - p
 pub places-end : (m : List ℕ) (n p s : ℕ) (x : Bool) → n ≤ p → x ≡ every isDeclaration (left m p (n - p) s) → true ≡ x
 unfolding every left wordsOf split
 places-end m n p s x l inv = let k : n - p ≡ 0 = omega arith in sym (inv ∙ rw k)
+
+pub fitting-start : (m : List ℕ) (n : ℕ) → n ≡ countIn m → defaultsFit [] (decode m) ≡ defaultsFit (rowsFrom m 0 0) (left m 0 (n - 0) 0)
+fitting-start m n e = rw (sub-zero, e, rows-none) (ap (defaultsFit []) (decode-left m))
+
+module _ (m : List ℕ) (n p s : ℕ) (l : p < n) (fit : s + rowsLeft m p (n - p) ≤ rowLimit) (t : ℕ) (e : t ≡ sizeAt m p) where
+  module _ (x : Bool) (inv : x ≡ defaultsFit (rowsFrom m s 0) (left m p (n - p) s)) (r : Resolution) (f : r ≡ misfitIn (rowsFrom m (s + t) 0) (rowsFrom m t s)) where
+    first-fits : x ≡ (isResolved r && defaultsFit (rowsFrom m (s + t) 0) (left m (p + 1) (n - (p + 1)) (s + t)))
+    unfolding defaultsFit
+    first-fits =
+        let a : rowsFrom m s 0 ++ rowsFrom m t s ≡ rowsFrom m (s + t) 0 = sym (rows-add m s t 0 ∙ rw zero-add) in
+        inv ∙ rw (first-left m n p s l fit t e, a, f)
+
+    pub fitting-bad : {y : Fault} → r ≡ Faulty y → false ≡ x
+    fitting-bad h = sym (first-fits ∙ rw h)
+
+    pub fitting-more : r ≡ Resolved → x ≡ defaultsFit (rowsFrom m (s + t) 0) (left m (p + 1) (n - (p + 1)) (s + t))
+    fitting-more h = first-fits ∙ rw h
+
+pub fitting-end : (m : List ℕ) (n p s : ℕ) (x : Bool) → n ≤ p → x ≡ defaultsFit (rowsFrom m s 0) (left m p (n - p) s) → true ≡ x
+unfolding defaultsFit left wordsOf split
+fitting-end m n p s x l inv = let k : n - p ≡ 0 = omega arith in sym (inv ∙ rw k)
 
 -- ---- the tests of well_formed
 
@@ -142,8 +169,14 @@ module _ (m : List ℕ) where
       unfolding wellFormed keepsRules
       formed-bad h = rw (e, h)
 
-      pub formed-last : every isDeclaration (decode m) ≡ true → (t : ℕ) → t ≡ rowsBefore m n → isResolved (faultIn [] (rowsFrom m t 0)) ≡ wellFormed m
-      unfolding wellFormed keepsRules resolves
-      formed-last h t g =
-          let a : flat (decode m) ≡ rowsFrom m t 0 = ap flat (decode-left m) ∙ flat-left m (countIn m) 0 0 ∙ ap (λ (i : ℕ). rowsFrom m i 0) (sym (before-left m (countIn m)) ∙ ap (rowsBefore m) (sym c) ∙ sym g) in
-          rw (e, h, a)
+      module _ (h : every isDeclaration (decode m) ≡ true) (t : ℕ) (g : t ≡ rowsBefore m n) where
+        all-rows : flat (decode m) ≡ rowsFrom m t 0
+        all-rows = ap flat (decode-left m) ∙ flat-left m (countIn m) 0 0 ∙ ap (λ (i : ℕ). rowsFrom m i 0) (sym (before-left m (countIn m)) ∙ ap (rowsBefore m) (sym c) ∙ sym g)
+
+        pub formed-faulty : isResolved (faultIn [] (rowsFrom m t 0)) ≡ false → false ≡ wellFormed m
+        unfolding wellFormed keepsRules resolves
+        formed-faulty f = rw (e, h, all-rows, f)
+
+        pub formed-last : isResolved (faultIn [] (rowsFrom m t 0)) ≡ true → defaultsFit [] (decode m) ≡ wellFormed m
+        unfolding wellFormed keepsRules resolves
+        formed-last f = rw (e, h, all-rows, f)

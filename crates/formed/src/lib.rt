@@ -1,5 +1,6 @@
 // Whether bytes are a well-formed set.
 use chains::SLOTS;
+use fits::first_misfit;
 use resolve::Resolution;
 use resolve::first_fault;
 use resolve::is_declaration_by;
@@ -17,7 +18,7 @@ ghost use Rattle.row.specs.Sets.{countIn, rowsFrom, decode};
 ghost use Rattle.row.specs.Memory.{rowsBefore};
 ghost use Rattle.resolve.specs.Rules.{isDeclaration};
 ghost use Rattle.resolve.specs.Resolve.{faultIn, isResolved};
-ghost use Rattle.formed.specs.WellFormed.{wellFormed};
+ghost use Rattle.formed.specs.WellFormed.{defaultsFit, wellFormed};
 
 // Are the rows of each of the n places one declaration? One pair of tables serves them all.
 fn are_declarations(mem: &[u8], n: usize) -> bool
@@ -51,6 +52,26 @@ fn is_resolved(mem: &[u8], n: usize) -> bool
     }
 }
 
+// Is 47 nowhere in the n places? Each is asked among all rows up to its end.
+fn defaults_fit(mem: &[u8], n: usize) -> bool
+    requires { ⌜ (length (now mem) ≡ layoutLength) × (n ≡ countIn (now mem)) × (n ≤ declarationLimit) × (rowsBefore (now mem) n ≤ rowLimit) ⌝ }
+    ensures { λ r. ⌜ r ≡ defaultsFit [] (decode (now (mem .entry))) ⌝ }
+{
+    let mut start = 0;
+    let mut place = 0;
+    while place < n {
+        let rows = rows_of(mem, place);
+        let r = first_misfit(mem, start, rows);
+        match r {
+            Resolution::Resolved => {}
+            Resolution::Faulty(_) => return false,
+        }
+        start += rows;
+        place += 1;
+    }
+    true
+}
+
 // For any bytes: are they the encoding of a set that keeps the rules?
 pub fn well_formed(mem: &[u8]) -> bool
     ensures { λ r. ⌜ r ≡ wellFormed (now (mem .entry)) ⌝ }
@@ -62,5 +83,8 @@ pub fn well_formed(mem: &[u8]) -> bool
     if !are_declarations(mem, n) {
         return false;
     }
-    is_resolved(mem, rows_before(mem, n))
+    if !is_resolved(mem, rows_before(mem, n)) {
+        return false;
+    }
+    defaults_fit(mem, n)
 }
