@@ -1,4 +1,4 @@
-mod Deep
-mod Forms
+pub mod Deep
+pub mod Forms
 mod Rows
 pub mod Fuel

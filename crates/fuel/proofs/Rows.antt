@@ -6,11 +6,10 @@ use Prim.Native.Nat.{ℕ, suc, _+_}
 use Rattle.answer.specs.declared.refusal.Why.the-variants.{NameMissing, TypeMissing, FieldsMissing, ItemsMissing, ValuesMissing}
 use Rattle.name.specs.Name.{namespacePart}
 use Rattle.row.specs.declared.kind.Kind.{Kind}
-use Rattle.row.specs.declared.kind.Kind.the-variants.{Array, Map, Union, Record, Field}
+use Rattle.row.specs.declared.kind.Kind.the-variants.{Array, Map, Union, Record}
 use Rattle.view.specs.declared.space.Spot.{Spot}
 use Rattle.view.specs.declared.space.Spot.the-variants.{At}
 use Rattle.view.specs.Elements.{elements}
-use Rattle.view.specs.Strings.{stringAt}
 use Rattle.view.specs.Members.{items-key, values-key, fields-key, membersOf}
 use Rattle.view.specs.declared.members.Members.{Members}
 use Rattle.view.proofs.Laws.{All}
@@ -22,7 +21,7 @@ use Rattle.form.specs.Names.{simpleCheck, definedAt, definitionCheck}
 use Rattle.form.specs.Notes.{noted}
 use Rattle.rules.specs.Fields.{fieldNamesCheck}
 use Rattle.schema.specs.Out.{Out, read, rowsThen, andThen, after, no, each}
-use Rattle.schema.specs.Schema.{rowWith, row, Around, within, newName, newKind, aliasRows, definitionRows, definition, fieldAliasRows, fieldRows, fieldsRows, recordRows, partRows, asMember, unionRows, schemaBy}
+use Rattle.schema.specs.Schema.{rowWith, row, Around, within, newName, newKind, aliasRows, definitionRows, definition, fieldAliasRows, fieldRow, keptCheck, fieldRows, fieldsRows, recordRows, partRows, asMember, unionRows, schemaBy}
 use Rattle.fuel.proofs.Deep.{Deep, Opens, as-array, deep-less, deep-elements, deep-member, fields-open}
 use Rattle.fuel.proofs.Forms.{Stands, spot-same, typed-deep}
 
@@ -63,7 +62,7 @@ module _ (t : List ℕ) (m : ℕ) {s s′ : Around → ℕ → ℕ → Out} (sam
       let ms = membersOf t f in
       spot-same (asText t (ms .name)) (no NameMissing f)
       (λ q e.
-      ap (λ (x : Out). after (simpleCheck t q) (rowsThen (row Field d q (stringAt t q)) (andThen (each (fieldAliasRows t (d + 1)) (aliasesIn t (ms .aliases))) x)))
+      ap (λ (x : Out). after (simpleCheck t q) (rowsThen (fieldRow t d q (ms .default) ∷ []) (andThen (each (fieldAliasRows t (d + 1)) (aliasesIn t (ms .aliases))) (after (keptCheck t (ms .default)) x))))
       (spot-same (ms .typed) (no TypeMissing f) (λ v g. same a (d + 1) v (deep-less (deep-less (typed-deep t (suc (suc m)) f o v g))))))
 
   fields-same : (a : Around) (d : ℕ) (fs : List ℕ) → All (Opens t (suc (suc m)) 123) fs → fieldsRows (s a) t d fs ≡ fieldsRows (s′ a) t d fs
