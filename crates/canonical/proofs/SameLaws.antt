@@ -1,4 +1,4 @@
--- Rows that differ only in positions, aliases, notes, precision and scale have one text.
+-- Rows that differ only in positions, aliases, defaults, notes, precision and scale have one text.
 -- Assumes nothing.
 use mathlib.Core.Path.{_≡_, refl, sym, ap, ap₂, _∙_}
 use mathlib.Core.Bool.{Bool, true, false, cond, _&&_, _||_, and-false}
@@ -102,6 +102,29 @@ module _ (n : ℕ) (same : (r : Row) (rows : List Row) → isWritten (r .kind) �
       go true p false q h = rw (p, q) h
       go false p x q h = rw (and-false x) h
 
+-- only a fixed's text has a size
+opening-size : (k : Kind) (name : List ℕ) (size : ℕ) → opening k name (cond (isKind Fixed k) size 0) ≡ opening k name size
+unfolding opening isKind
+opening-size Null name size = refl
+opening-size Boolean name size = refl
+opening-size Int name size = refl
+opening-size Long name size = refl
+opening-size Float name size = refl
+opening-size Double name size = refl
+opening-size Bytes name size = refl
+opening-size String name size = refl
+opening-size Reference name size = refl
+opening-size Array name size = refl
+opening-size Map name size = refl
+opening-size Union name size = refl
+opening-size Record name size = refl
+opening-size Enum name size = refl
+opening-size Fixed name size = refl
+opening-size Field name size = refl
+opening-size Symbol name size = refl
+opening-size Alias name size = refl
+opening-size FieldAlias name size = refl
+
 text-strip : (n : ℕ) (r : Row) (rows : List Row) → isWritten (r .kind) ≡ true → leafy (r ∷ rows) ≡ true → textOf n (stripped (r ∷ rows)) ≡ textOf n (r ∷ rows)
 unfolding textOf partsOf bare
 text-strip zero r rows w e = refl
@@ -109,7 +132,7 @@ text-strip (suc n) r rows w e =
     let d = r .depth in
     let l = leafy-parts r rows e .1 in
     let a = starts-strip n (text-strip n) (d + 1) (under d rows) (leafy-under d rows l) in
-    rw (strip-written r rows w, under-strip d rows l)
+    rw (strip-written r rows w, under-strip d rows l, opening-size (r .kind) (r .text) (r .size))
     (ap (λ (ps : List (List ℕ)). opening (r .kind) (r .text) (r .size) ++ (listed ps ++ closing (r .kind))) a)
 
 strip-length : (rows : List Row) → length (stripped rows) ≤ length rows

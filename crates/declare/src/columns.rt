@@ -46,9 +46,12 @@ pub(crate) fn put_right(out: &mut [u8], at: usize, n: u64, width: usize) -> usiz
     put(out, start, &digits[0..k])
 }
 
-// How a byte is shown: a tab or a CR as a blank, any other that is not printable ASCII as `?`.
+// How a byte is shown: a tab, a CR or an LF as a blank, any other that is not printable ASCII as `?`.
 fn shown(b: u8) -> u8 {
     if b == b'\t' {
+        return b' ';
+    }
+    if b == b'\n' {
         return b' ';
     }
     if b == b'\r' {

@@ -3,6 +3,13 @@ use crate::lines::line;
 use answer::Why;
 use script::output::put;
 
+// Of the numbers from 47 on: the sentence of 47 is line 0.
+fn put_later(out: &mut [u8], at: usize, n: usize) -> usize {
+    let all = b"The default does not fit the type of its field.\n\
+        The default is longer than 255 bytes.";
+    put(out, at, line(all, n))
+}
+
 // The sentence of number n is line n.
 pub(crate) fn put_sentence(out: &mut [u8], at: usize, why: Why) -> usize {
     let all = b"\n\
@@ -36,5 +43,8 @@ pub(crate) fn put_sentence(out: &mut [u8], at: usize, why: Why) -> usize {
         This map has no `values`.\n\
         The buffer has no room for the text.";
     let n = why.number() as usize;
+    if 46 < n {
+        return put_later(out, at, n - 47);
+    }
     put(out, at, line(all, n))
 }

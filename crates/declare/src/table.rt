@@ -3,10 +3,12 @@ use crate::columns::least;
 use crate::columns::most;
 use crate::columns::put_left;
 use crate::columns::put_right;
+use crate::columns::put_shown;
 use crate::lines::line;
 use decimals::limit;
 use row::Entry;
 use row::Kind;
+use row::read::default_of;
 use row::read::read_row;
 use row::read::string_of;
 use script::output::put;
@@ -84,21 +86,42 @@ fn put_note(out: &mut [u8], at: usize, row: Entry) -> usize {
     put_reason(out, c, row.note)
 }
 
-fn has_numbers(row: Entry) -> bool {
+// A field's default as it is written, where there is one.
+fn put_default(out: &mut [u8], at: usize, default: &[u8]) -> usize {
+    if default.len() == 0 {
+        return at;
+    }
+    let a = put(out, at, b"  default ");
+    put_shown(out, a, default)
+}
+
+// Does anything stand behind the name?
+fn has_more(row: Entry, default: &[u8]) -> bool {
     let kind = row.kind;
     if is_fixed(kind) {
         return true;
     }
-    0 < row.note
+    if 0 < row.note {
+        return true;
+    }
+    0 < default.len()
 }
 
-// The name and the numbers, as far as there are any.
-fn put_end(out: &mut [u8], at: usize, row: Entry, name: &[u8], width: usize) -> usize {
-    if has_numbers(row) {
+// The name, the numbers and the default, as far as there are any.
+fn put_end(
+    out: &mut [u8],
+    at: usize,
+    row: Entry,
+    name: &[u8],
+    default: &[u8],
+    width: usize,
+) -> usize {
+    if has_more(row, default) {
         let a = put(out, at, b"  ");
         let b = put_left(out, a, name, width);
         let c = put_size(out, b, row);
-        return put_note(out, c, row);
+        let d = put_note(out, c, row);
+        return put_default(out, d, default);
     }
     if name.len() == 0 {
         return at;
@@ -117,9 +140,17 @@ fn put_front(out: &mut [u8], at: usize, n: usize, row: Entry) -> usize {
     put_right(out, d, row.position as u64, 10)
 }
 
-fn put_row(out: &mut [u8], at: usize, n: usize, row: Entry, name: &[u8], width: usize) -> usize {
+fn put_row(
+    out: &mut [u8],
+    at: usize,
+    n: usize,
+    row: Entry,
+    name: &[u8],
+    default: &[u8],
+    width: usize,
+) -> usize {
     let a = put_front(out, at, n, row);
-    let b = put_end(out, a, row, name, width);
+    let b = put_end(out, a, row, name, default, width);
     put(out, b, b"\n")
 }
 
@@ -145,7 +176,8 @@ fn put_each(out: &mut [u8], at: usize, mem: &[u8], start: usize, end: usize, wid
     while i < end {
         let row = read_row(mem, i);
         let name = string_of(mem, i);
-        to = put_row(out, to, i - start, row, name, width);
+        let default = default_of(mem, i);
+        to = put_row(out, to, i - start, row, name, default, width);
         i += 1;
     }
     to

@@ -3,7 +3,7 @@
 use mathlib.Core.Path.{_≡_, refl, sym, _∙_}
 use mathlib.Core.Bool.{Bool, true, false, not, cond, _&&_, _||_}
 use mathlib.Core.List.{List, [], _∷_}
-use Prim.Native.Nat.{ℕ, suc, _+_, _≤_, _<_}
+use Prim.Native.Nat.{ℕ, suc, _+_, _^_, _≤_, _<_}
 use native.Mathlib.Omega.{arith}
 use lib.Dec.{eqb, ltb}
 use lib.ListN.{length}
@@ -15,8 +15,8 @@ use Rattle.row.specs.Kinds.{kindNumber}
 use Rattle.row.specs.declared.kind.Kind.{Kind}
 use Rattle.row.specs.declared.kind.Kind.the-variants.{Union, Record, Enum, Field, Symbol, Alias, FieldAlias}
 use Rattle.resolve.specs.Kinds.{isKind, isPrimitive, isDefinition, isNamed, isSchema, isAliasOf, hasOne, isPartOf, past, bodyFits, partsFit}
-use Rattle.resolve.proofs.Laws.{numbered, strings-text}
-use Rattle.resolve.specs.Rules.{goodText, goodStrings, goodSize, goodNumbers, under, kindsAt, goodParts, noClash, goodRow, goodRows, climbs, isDeclaration}
+use Rattle.resolve.proofs.Laws.{numbered, size-fits, strings-text}
+use Rattle.resolve.specs.Rules.{goodText, goodStrings, goodNumbers, under, kindsAt, goodParts, noClash, goodRow, goodRows, climbs, isDeclaration}
 use Rattle.canonical.specs.Canonical.{isWritten, startsAt, partsOf}
 
 -- ---- the rows under a row
@@ -159,7 +159,7 @@ starts n d (r ∷ rows) e h = at-depth (eqb (r .depth) d) refl (starts n d rows 
 -- a good row
 pub record Good (r : Row) (rows : List Row) : Type 0 where
   pub text : goodText (r .kind) (r .text) ≡ true
-  pub size : goodSize (r .kind) (r .size) ≡ true
+  pub size : r .size < 2 ^ 64
   pub kinds : List Kind
   pub fit : bodyFits (r .kind) kinds ≡ true
   pub parts : Starts (length rows) (r .depth + 1) kinds (partsOf (r .depth) rows)
@@ -174,7 +174,7 @@ good-row r rows e =
     let below = under (r .depth) rows in
     record {
       text = strings-text r (w .0);
-      size = numbered r (w .1) .size;
+      size = size-fits r (numbered r (w .1) .size);
       kinds = written (kindsAt (r .depth + 1) below);
       fit = fit-written (r .kind) (kindsAt (r .depth + 1) below) (x .1);
       parts = starts (length rows) (r .depth + 1) below (good-under (r .depth) rows (z .1)) (length-under (r .depth) rows);

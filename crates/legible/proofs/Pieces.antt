@@ -7,7 +7,7 @@ use Prim.Native.Nat.{ℕ, suc, _+_, _^_, _<_}
 use native.Mathlib.Omega.{arith}
 use lib.Dec.{eqb}
 use lib.ListN.{length}
-use borrow.Author.Tests.{eqb-true, ltb-true}
+use borrow.Author.Tests.{eqb-true}
 use Rattle.ground.specs.Ascii.{ascii}
 use Rattle.ground.proofs.Laws.{never, and-true}
 use Rattle.name.specs.Name.{every, isEmpty, isWithin, isLetter, isDigit, isLater, isSimple, isDotted, isReserved}
@@ -16,7 +16,7 @@ use Rattle.name.proofs.Laws.{simple-dotted, empty-nil}
 use Rattle.row.specs.declared.kind.Kind.{Kind}
 use Rattle.row.specs.declared.kind.Kind.the-variants.{Null, Boolean, Int, Long, Float, Double, Bytes, String, Reference, Array, Map, Union, Record, Enum, Fixed, Field, Symbol, Alias, FieldAlias}
 use Rattle.resolve.specs.Kinds.{isKind, isDefinition, hasOne, isPartOf, bodyFits}
-use Rattle.resolve.specs.Rules.{isFullName, isOwnName, goodText, goodSize}
+use Rattle.resolve.specs.Rules.{isFullName, isOwnName, goodText}
 use Rattle.canonical.specs.Decimal.{decimal}
 use Rattle.canonical.specs.Pieces.{quoted, named, opening, closing}
 use Rattle.canonical.specs.Canonical.{isWritten, listed}
@@ -160,8 +160,8 @@ module _ (s : List ℕ) (size m : ℕ) {ks : List Kind} {ps : List (List ℕ)} (
   up-2 : (t : List ℕ) → value (suc (suc m)) t → value (2 + m) t
   up-2 t d = let e : suc (suc m) ≡ 2 + m = omega arith in subst (λ (n : ℕ). value n t) e d
 
-  pub row-value : (k : Kind) → isWritten k ≡ true → Many char s → goodSize k size ≡ true → bodyFits k ks ≡ true → Row-value k
-  unfolding brackets opening closing isWritten isKind isDefinition isPartOf hasOne goodSize every inName isLater isLetter isDigit isWithin
+  pub row-value : (k : Kind) → isWritten k ≡ true → Many char s → size < 2 ^ 64 → bodyFits k ks ≡ true → Row-value k
+  unfolding brackets opening closing isWritten isKind isDefinition isPartOf hasOne every inName isLater isLetter isDigit isWithin
   row-value Null w c g e = none-row Null (λ x. refl) e (a-word (0 + m) (ascii "null") refl)
   row-value Boolean w c g e = none-row Boolean (λ x. refl) e (a-word (0 + m) (ascii "boolean") refl)
   row-value Int w c g e = none-row Int (λ x. refl) e (a-word (0 + m) (ascii "int") refl)
@@ -176,7 +176,7 @@ module _ (s : List ℕ) (size m : ℕ) {ks : List Kind} {ps : List (List ℕ)} (
   row-value Union w c g e = up-1 _ (array-value m z)
   row-value Record w c g e = up-2 _ (record-row s c m z)
   row-value Enum w c g e = up-2 _ (enum-row s c m z)
-  row-value Fixed w c g e = none-row Fixed (λ x. refl) e (up-1 _ (fixed-row s c m size (ltb-true size (2 ^ 64) g)))
+  row-value Fixed w c g e = none-row Fixed (λ x. refl) e (up-1 _ (fixed-row s c m size g))
   row-value Field w c g e = one-row Field refl e (λ v d. up-1 _ (field-row s c m v d))
   row-value Symbol w c g e = none-row Symbol (λ x. refl) e (quoted-value (0 + m) s c)
   row-value Alias w c g e = never w

@@ -41,7 +41,7 @@ numbered r e =
 
 -- ---- they fit their bytes
 
-size-fits : (r : Row) → goodSize r ≡ true → r .size < 2 ^ 64
+pub size-fits : (r : Row) → goodSize r ≡ true → r .size < 2 ^ 64
 unfolding goodSize
 size-fits r e = go (r .size) (isKind Fixed (r .kind)) (isEmpty (r .default)) e
   where

@@ -31,7 +31,7 @@ unfolding countedAll pushedAll
 did-none m c = record { did = (refl, refl) }
 
 -- a row without a default is counted by its own string
-own-string : (w : Row) → w .default ≡ [] → length (w .text) ≡ length (stringsOf w)
+pub own-string : (w : Row) → w .default ≡ [] → length (w .text) ≡ length (stringsOf w)
 own-string w d = sym (length-strings w ∙ rw d (add-zero (length (w .text))))
 
 pub did-row : {m m′ : List ℕ} {c c′ : Counts} (w : Row) → w .default ≡ [] → c′ ≡ counted c (length (w .text)) → m′ ≡ pushed m c w → Did m c m′ (Read c′) (read (w ∷ []))
@@ -51,12 +51,16 @@ did-rows m m″ c r rows (read more) d =
     record { did = (d .did .0 ∙ ap Read (sym (counted-append c rows more)), d .did .1 ∙ sym (pushed-append m c rows more)) }
 
 -- a row was pushed, and then
-pub did-after : {m m′ m″ : List ℕ} {c c′ : Counts} {r : Walked} (w : Row) (o : Out) → w .default ≡ [] → c′ ≡ counted c (length (w .text)) → m′ ≡ pushed m c w
+pub did-pushed : {m m′ m″ : List ℕ} {c c′ : Counts} {r : Walked} (w : Row) (o : Out) → c′ ≡ counted c (length (stringsOf w)) → m′ ≡ pushed m c w
     → Did m′ c′ m″ r o → Did m c m″ r (rowsThen (w ∷ []) o)
 unfolding countedAll pushedAll
-did-after {m} {m′} {m″} {c} {c′} {r} w o n e h d =
+did-pushed {m} {m′} {m″} {c} {c′} {r} w o e h d =
     did-rows m m″ c r (w ∷ []) o
-    (subst (λ (x : List ℕ). Did x (counted c (length (stringsOf w))) m″ r o) h (subst (λ (x : Counts). Did m′ x m″ r o) (e ∙ ap (counted c) (own-string w n)) d))
+    (subst (λ (x : List ℕ). Did x (counted c (length (stringsOf w))) m″ r o) h (subst (λ (x : Counts). Did m′ x m″ r o) e d))
+
+pub did-after : {m m′ m″ : List ℕ} {c c′ : Counts} {r : Walked} (w : Row) (o : Out) → w .default ≡ [] → c′ ≡ counted c (length (w .text)) → m′ ≡ pushed m c w
+    → Did m′ c′ m″ r o → Did m c m″ r (rowsThen (w ∷ []) o)
+did-after {c = c} w o n e h d = did-pushed w o (e ∙ ap (counted c) (own-string w n)) h d
 
 -- ---- one part, and then the next
 
@@ -86,11 +90,21 @@ pub did-end : {m m′ : List ℕ} {c : Counts} {r : Walked} (o : Out) → Did m 
 did-end (refused x) d = record { did = d .did }
 did-end {m} {m′} {c} {r} (read rows) d = subst (λ (x : List Row). Did m c m′ r (read x)) (sym (append-nil rows)) d
 
+-- nothing stands before
+pub none-then : (o : Out) → o ≡ andThen (read []) o
+none-then (refused x) = refl
+none-then (read xs) = refl
+
 -- rows stand before both
 pub rows-then : (rs : List Row) (o next : Out) → rowsThen rs (andThen o next) ≡ andThen (rowsThen rs o) next
 rows-then rs (refused f) next = refl
 rows-then rs (read xs) (refused f) = refl
 rows-then rs (read xs) (read ys) = ap read (sym (append-assoc rs xs ys))
+
+-- a part stands before both
+pub part-then : (x o next : Out) → andThen x (andThen o next) ≡ andThen (andThen x o) next
+part-then (refused f) o next = refl
+part-then (read rs) o next = rows-then rs o next
 
 -- ---- a check, and then
 

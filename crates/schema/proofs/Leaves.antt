@@ -3,14 +3,18 @@
 use mathlib.Core.Path.{_≡_, refl, sym, ap, _∙_, subst}
 use mathlib.Core.Bool.{false, cond}
 use mathlib.Core.List.{List, [], _∷_}
-use Prim.Native.Nat.{ℕ, _+_}
+use Prim.Native.Nat.{ℕ, _+_, _-_, _<_, _≤_}
+use native.Mathlib.Omega.{arith}
 use lib.Dec.{eqb}
-use lib.ListN.{length}
-use borrow.Author.Tests.{eq-eqb, ne-eqb}
+use lib.ListN.{length, take, drop}
+use borrow.Author.Tests.{eq-eqb, ne-eqb, le-leb, lt-leb}
 use Rattle.answer.specs.declared.counts.Counts.{Counts}
 use Rattle.answer.specs.declared.refusal.Fault.{Fault}
-use Rattle.answer.specs.declared.refusal.Why.the-variants.{NameMissing}
-use Rattle.row.specs.Rows.{rowOf}
+use Rattle.answer.specs.declared.refusal.Why.the-variants.{NameMissing, DefaultTooLong}
+use Rattle.ground.specs.Bytes.{part}
+use Rattle.ground.proofs.Laws.{length-part}
+use Rattle.name.specs.Full.{keptLimit, isShort}
+use Rattle.row.specs.Rows.{Row, rowOf, withDefault, stringsOf}
 use Rattle.row.specs.Kinds.{kindNumber}
 use Rattle.row.specs.Memory.{counted, pushed}
 use Rattle.row.specs.declared.Entry.{Entry}
@@ -19,8 +23,11 @@ use Rattle.row.specs.declared.kind.Kind.the-variants.{Bytes, Reference, Field, 
 use Rattle.view.specs.declared.space.Spot.{Spot}
 use Rattle.view.specs.declared.space.Spot.the-variants.{At, Nowhere}
 use Rattle.view.specs.declared.members.Members.{Members}
+use Rattle.view.specs.Ends.{endOf}
 use Rattle.view.specs.Elements.{elementsAt}
+use Rattle.view.specs.Members.{default-key, membersOf}
 use Rattle.view.specs.Strings.{stringAt}
+use Rattle.view.proofs.Laws.{end-ahead, end-within, member-inside}
 use Rattle.form.specs.declared.check.Check.{Check}
 use Rattle.form.specs.declared.check.Check.the-variants as check
 use Rattle.form.specs.declared.names.Named.{Named}
@@ -38,10 +45,10 @@ use Rattle.rules.specs.Unions.{called, unnamed, unionCheck}
 use Rattle.form.proofs.Laws.{named-wrong}
 use Rattle.schema.specs.declared.walked.Walked.{Walked}
 use Rattle.schema.specs.declared.walked.Walked.the-variants.{Read, Bad}
-use Rattle.schema.specs.Out.{read, after, each}
-use Rattle.schema.specs.Schema.{row, rowWith, aliasRows, fieldAliasRows, symbolRows, referenceRows}
-use Rattle.schema.specs.Did.{Did, entry, around, primitiveWith, wordWith, fieldHead}
-use Rattle.schema.proofs.Did.{did-bad, did-none, did-row, did-after, did-fault, did-fine}
+use Rattle.schema.specs.Out.{Out, read, after, each}
+use Rattle.schema.specs.Schema.{row, rowWith, aliasRows, fieldAliasRows, writtenAt, fieldRow, keptCheck, symbolRows, referenceRows}
+use Rattle.schema.specs.Did.{Did, InText, entry, around, primitiveWith, wordWith, fieldHead}
+use Rattle.schema.proofs.Did.{own-string, did-bad, did-none, did-row, did-pushed, did-stop, did-then, did-fault, did-fine}
 
 -- a row whose string is known by an equation
 pub did-put : {m m′ : List ℕ} {c c′ : Counts} (kind : Kind) (d q : ℕ) {s x : List ℕ} → s ≡ x → c′ ≡ counted c (length s) → m′ ≡ pushed m c (rowWith kind d q s 0 (noted 0))
@@ -52,10 +59,21 @@ pub put-row : (m : List ℕ) {m′ : List ℕ} (c : Counts) (kind : Kind) (d q :
     → m′ ≡ pushed m c (rowWith kind d q s size n)
 put-row m c kind d q s size n e h = h ∙ ap (λ (x : Entry). pushed m c (rowOf x s)) e
 
--- a string that was copied
-pub put-string : (m : List ℕ) {m′ : List ℕ} (c : Counts) {c′ : Counts} (kind : Kind) (d q : ℕ) {s x : List ℕ} → s ≡ x → (c′ ≡ counted c (length s)) × (m′ ≡ pushed m c (rowWith kind d q s 0 (noted 0)))
-    → (c′ ≡ counted c (length x)) × (m′ ≡ pushed m c (rowWith kind d q x 0 (noted 0)))
-put-string m {m′} c {c′} kind d q e h = subst (λ (y : List ℕ). (c′ ≡ counted c (length y)) × (m′ ≡ pushed m c (rowWith kind d q y 0 (noted 0)))) e h
+-- a row with both strings was counted and pushed
+abbrev pub Pushes : List ℕ → Counts → List ℕ → Counts → Row → Type 0
+Pushes m c m′ c′ w = (c′ ≡ counted c (length (stringsOf w))) × (m′ ≡ pushed m c w)
+
+-- its own string was copied, or stood in the text
+pub put-both : (m : List ℕ) {m′ : List ℕ} (c : Counts) {c′ : Counts} (e : Entry) (default : List ℕ) {s x : List ℕ} → s ≡ x → Pushes m c m′ c′ (withDefault e s default)
+    → Pushes m c m′ c′ (withDefault e x default)
+put-both m {m′} c {c′} e default g h = subst (λ (y : List ℕ). Pushes m c m′ c′ (withDefault e y default)) g h
+
+-- it has no default
+pub put-string : (m : List ℕ) {m′ : List ℕ} (c : Counts) {c′ : Counts} (kind : Kind) (d q : ℕ) (s : List ℕ) {e : Entry} → e ≡ entry kind d q 0 (noted 0)
+    → Pushes m c m′ c′ (withDefault e s []) → (c′ ≡ counted c (length s)) × (m′ ≡ pushed m c (rowWith kind d q s 0 (noted 0)))
+put-string m {m′} c {c′} kind d q s g h =
+    let k = subst (λ (y : Entry). Pushes m c m′ c′ (withDefault y s [])) g h in
+    (k .0 ∙ ap (counted c) (sym (own-string (rowWith kind d q s 0 (noted 0)) refl)), k .1)
 
 -- ---- aliases
 
@@ -147,23 +165,78 @@ module _ (t : List ℕ) (q : ℕ) {kind : Kind} (k : kind ≡ wordKind (stringAt
 
 -- ---- fields
 
-module _ (t : List ℕ) (d at : ℕ) (o : Members) {m m′ : List ℕ} {c : Counts} {s : Spot} (e : s ≡ asText t (o .name)) where
-  pub field-none : s ≡ Nowhere → Did m c m′ (Bad (fault NameMissing at)) (fieldHead t d at o)
+module _ (t : List ℕ) (d q : ℕ) {default : Spot} (m : List ℕ) {m′ : List ℕ} (c : Counts) {c′ : Counts} where
+  pub field-plain : default ≡ Nowhere → (c′ ≡ counted c (length (stringAt t q))) × (m′ ≡ pushed m c (rowWith Field d q (stringAt t q) 0 (noted 0))) → Pushes m c m′ c′ (fieldRow t d q default)
+  unfolding fieldRow
+  field-plain e h = rw e (h .0 ∙ ap (counted c) (own-string (rowWith Field d q (stringAt t q) 0 (noted 0)) refl), h .1)
+
+  pub field-with : {v stop : ℕ} {x : Entry} → default ≡ At v → x ≡ entry Field d q v (noted 0) → stop ≡ endOf t v
+      → Pushes m c m′ c′ (withDefault x (stringAt t q) (take (stop - v) (drop v t))) → Pushes m c m′ c′ (fieldRow t d q default)
+  unfolding fieldRow writtenAt part
+  field-with {v} {stop} {x} e f g h =
+      rw e (subst (λ (y : ℕ). Pushes m c m′ c′ (withDefault (entry Field d q v (noted 0)) (stringAt t q) (take (y - v) (drop v t)))) g
+      (subst (λ (y : Entry). Pushes m c m′ c′ (withDefault y (stringAt t q) (take (stop - v) (drop v t)))) f h))
+
+-- a member's value stands within the text
+pub default-in : (t : List ℕ) (p : ℕ) {o : Members} → o ≡ membersOf t p → InText t (o .default)
+unfolding membersOf
+default-in t p e = rw e (record { within = λ v f. member-inside t p default-key v f .within })
+
+module _ (t : List ℕ) {default : Spot} where
+  pub kept-none : default ≡ Nowhere → check.Fine ≡ keptCheck t default
+  unfolding keptCheck
+  kept-none e = rw e refl
+
+  module _ {v stop : ℕ} (e : default ≡ At v) (i : InText t default) (f : stop ≡ endOf t v) where
+    pub spans : (v ≤ stop) × (stop ≤ length t)
+    spans = let a = i .within v e in let b = end-ahead t v in let k = end-within t v (omega arith) in (omega arith, omega arith)
+
+    long-is : length (writtenAt t v) ≡ stop - v
+    unfolding writtenAt
+    long-is = let a = spans .0 in let b = spans .1 in length-part t v (endOf t v - v) (omega arith) ∙ ap (λ (y : ℕ). y - v) (sym f)
+
+    pub kept-long : keptLimit < stop - v → check.Bad (fault DefaultTooLong v) ≡ keptCheck t default
+    unfolding keptCheck isShort
+    kept-long l = rw (e, long-is, lt-leb (stop - v) keptLimit l) refl
+
+    pub kept-short : stop - v ≤ keptLimit → check.Fine ≡ keptCheck t default
+    unfolding keptCheck isShort
+    kept-short l = rw (e, long-is, le-leb (stop - v) keptLimit l) refl
+
+-- the same places
+each-at : (reads : ℕ → Out) {ps qs : List ℕ} → ps ≡ qs → {m m′ : List ℕ} {c : Counts} {r : Walked} → Did m c m′ r (each reads ps) → Did m c m′ r (each reads qs)
+each-at reads k {m} {m′} {c} {r} l = subst (λ (x : List ℕ). Did m c m′ r (each reads x)) k l
+
+module _ (t : List ℕ) (d at : ℕ) (o : Members) {m : List ℕ} {c : Counts} {s : Spot} (e : s ≡ asText t (o .name)) where
+  pub field-none : {m′ : List ℕ} → s ≡ Nowhere → Did m c m′ (Bad (fault NameMissing at)) (fieldHead t d at o)
   unfolding fieldHead
-  field-none g = rw (← e, g) (did-bad m m′ c (fault NameMissing at))
+  field-none {m′} g = rw (← e, g) (did-bad m m′ c (fault NameMissing at))
 
   module _ {q : ℕ} (g : s ≡ At q) {r : Check} (h : r ≡ simpleCheck t q) where
-    pub field-bad : {f : Fault} → r ≡ check.Bad f → Did m c m′ (Bad f) (fieldHead t d at o)
+    pub field-bad : {m′ : List ℕ} {f : Fault} → r ≡ check.Bad f → Did m c m′ (Bad f) (fieldHead t d at o)
     unfolding fieldHead
     field-bad i = rw (← e, g) (did-fault (simpleCheck t q) _ (sym h ∙ i))
 
-    pub field-fine : {m″ : List ℕ} {c″ : Counts} {r″ : Walked} (s″ : Spot) → r ≡ check.Fine → (c″ ≡ counted c (length (stringAt t q))) × (m″ ≡ pushed m c (rowWith Field d q (stringAt t q) 0 (noted 0)))
-        → elementsAt t s″ ≡ aliasesIn t (o .aliases) → Did m″ c″ m′ r″ (each (fieldAliasRows t (d + 1)) (elementsAt t s″)) → Did m c m′ r″ (fieldHead t d at o)
-    unfolding fieldHead
-    field-fine {m″} {c″} {r″} s″ i j k l =
-        rw (← e, g) (did-fine (simpleCheck t q) _ (sym h ∙ i)
-        (did-after (rowWith Field d q (stringAt t q) 0 (noted 0)) _ refl (j .0) (j .1)
-        (subst (λ (x : List ℕ). Did m″ c″ m′ r″ (each (fieldAliasRows t (d + 1)) x)) k l)))
+    -- the row was pushed, and the aliases were read
+    module _ (i : r ≡ check.Fine) {m₁ m₂ : List ℕ} {c₁ : Counts} {w : Walked} (s₁ : Spot) (j : Pushes m c m₁ c₁ (fieldRow t d q (o .default)))
+        (k : elementsAt t s₁ ≡ aliasesIn t (o .aliases)) (l : Did m₁ c₁ m₂ w (each (fieldAliasRows t (d + 1)) (elementsAt t s₁))) where
+      pub field-stopped : {m′ : List ℕ} {f : Fault} → w ≡ Bad f → Did m c m′ (Bad f) (fieldHead t d at o)
+      unfolding fieldHead
+      field-stopped n =
+          rw (← e, g) (did-fine (simpleCheck t q) _ (sym h ∙ i) (did-pushed (fieldRow t d q (o .default)) _ (j .0) (j .1) (did-stop _ _ (each-at (fieldAliasRows t (d + 1)) k l) n)))
+
+      module _ {c₂ : Counts} (n : w ≡ Read c₂) {x : Check} (u : x ≡ keptCheck t (o .default)) where
+        pub field-long : {m′ : List ℕ} {f : Fault} → x ≡ check.Bad f → Did m c m′ (Bad f) (fieldHead t d at o)
+        unfolding fieldHead
+        field-long v =
+            rw (← e, g) (did-fine (simpleCheck t q) _ (sym h ∙ i) (did-pushed (fieldRow t d q (o .default)) _ (j .0) (j .1)
+            (did-then _ _ (each-at (fieldAliasRows t (d + 1)) k l) n (did-fault (keptCheck t (o .default)) _ (sym u ∙ v)))))
+
+        pub field-kept : x ≡ check.Fine → Did m c m₂ (Read c₂) (fieldHead t d at o)
+        unfolding fieldHead
+        field-kept v =
+            rw (← e, g) (did-fine (simpleCheck t q) _ (sym h ∙ i) (did-pushed (fieldRow t d q (o .default)) _ (j .0) (j .1)
+            (did-then _ _ (each-at (fieldAliasRows t (d + 1)) k l) n (did-fine (keptCheck t (o .default)) _ (sym u ∙ v) (did-none m₂ c₂)))))
 
 module _ (t : List ℕ) (array : ℕ) {r : Check} (e : r ≡ fieldNamesCheck t [] (fieldsIn t array)) (c : Counts) where
   pub apart-bad : {f : Fault} → r ≡ check.Bad f → (m : List ℕ) → Did m c m (Bad f) (after (fieldNamesCheck t [] (fieldsIn t array)) (read []))

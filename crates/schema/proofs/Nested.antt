@@ -19,9 +19,10 @@ use Rattle.json.specs.declared.verdict.Scan.the-variants as scan
 use Rattle.json.specs.declared.verdict.Scan.the-variants.{Whole}
 use Rattle.name.specs.Name.{namespacePart}
 use Rattle.row.specs.Kinds.{kindNumber}
+use Rattle.row.specs.Rows.{Row}
 use Rattle.row.specs.Memory.{counted, pushed}
 use Rattle.row.specs.declared.kind.Kind.{Kind}
-use Rattle.row.specs.declared.kind.Kind.the-variants.{Bytes, Reference, Array, Map, Union, Record, Field}
+use Rattle.row.specs.declared.kind.Kind.the-variants.{Bytes, Reference, Array, Map, Union, Record}
 use Rattle.view.specs.declared.space.Spot.{Spot}
 use Rattle.view.specs.declared.space.Spot.the-variants.{At, Nowhere}
 use Rattle.view.specs.declared.members.Members.{Members}
@@ -52,9 +53,9 @@ use Rattle.schema.specs.declared.walked.Walked.the-variants.{Read, Bad}
 use Rattle.schema.specs.declared.walked.Defined.{Defined}
 use Rattle.schema.specs.declared.walked.Defined.the-variants as defined
 use Rattle.schema.specs.Out.{Out, refused, read, rowsThen, andThen, after, no, each}
-use Rattle.schema.specs.Schema.{Around, within, row, rowWith, newKind, referenceRows, primitiveRows, wordRows, fieldAliasRows, fieldRows, fieldsRows, recordRows, enumRows, fixedRows, partRows, unionRows, schemaBy, schemaOf, rowsOf, declared}
+use Rattle.schema.specs.Schema.{Around, within, row, rowWith, newKind, referenceRows, primitiveRows, wordRows, fieldAliasRows, fieldRow, keptCheck, fieldRows, fieldsRows, recordRows, enumRows, fixedRows, partRows, unionRows, schemaBy, schemaOf, rowsOf, declared}
 use Rattle.schema.specs.Did.{Did, Titled, around, primitiveWith, wordWith, headRows, fieldHead, elementRows}
-use Rattle.schema.proofs.Did.{did-bad, did-eq, did-after, did-stop, did-then, did-fault, did-fine, did-titled, did-untitled, titled-front, rows-then, after-then}
+use Rattle.schema.proofs.Did.{did-bad, did-eq, did-after, did-stop, did-then, did-fault, did-fine, did-titled, did-untitled, titled-front, none-then, rows-then, part-then, after-then}
 use Rattle.schema.proofs.Steps.{objects-done, objects-next}
 use Rattle.schema.proofs.Headed.{definition-then}
 
@@ -221,22 +222,33 @@ module _ (schema : ℕ → ℕ → Out) (t : List ℕ) (d f : ℕ) {b : Bool} (e
   unfolding elementRows
   element-field g = rw (← e, g) refl
 
+-- a check, rows, a part and a check before both
+checked-then : (x y : Check) (rs : List Row) (o next : Out)
+    → after x (rowsThen rs (andThen o (after y next))) ≡ andThen (after x (rowsThen rs (andThen o (after y (read []))))) next
+checked-then x y rs o next =
+    ap (λ (z : Out). after x (rowsThen rs (andThen o z))) (ap (after y) (none-then next) ∙ after-then y (read []) next)
+    ∙ ap (λ (z : Out). after x (rowsThen rs z)) (part-then o (after y (read [])) next)
+    ∙ ap (after x) (rows-then rs (andThen o (after y (read []))) next)
+    ∙ after-then x (rowsThen rs (andThen o (after y (read [])))) next
+
 field-then : (schema : ℕ → ℕ → Out) (t : List ℕ) (d f : ℕ) (o : Members) → o ≡ membersOf t f
     → fieldRows schema t d f ≡ andThen (fieldHead t d f o) (onSpot (o .typed) (schema (d + 1)) (no TypeMissing f))
 unfolding fieldRows fieldHead
 field-then schema t d f o e = rw e (go (membersOf t f) (asText t (membersOf t f .name)))
   where
     go : (o : Members) (s : Spot) → onSpot s
-        (λ q. after (simpleCheck t q) (rowsThen (row Field d q (stringAt t q)) (andThen (each (fieldAliasRows t (d + 1)) (aliasesIn t (o .aliases))) (onSpot (o .typed) (schema (d + 1)) (no TypeMissing f)))))
+        (λ q. after (simpleCheck t q) (rowsThen (fieldRow t d q (o .default) ∷ []) (andThen (each (fieldAliasRows t (d + 1)) (aliasesIn t (o .aliases)))
+        (after (keptCheck t (o .default)) (onSpot (o .typed) (schema (d + 1)) (no TypeMissing f))))))
         (no NameMissing f)
-        ≡ andThen (onSpot s (λ q. after (simpleCheck t q) (rowsThen (row Field d q (stringAt t q)) (each (fieldAliasRows t (d + 1)) (aliasesIn t (o .aliases))))) (no NameMissing f))
+        ≡ andThen (onSpot s
+        (λ q. after (simpleCheck t q) (rowsThen (fieldRow t d q (o .default) ∷ []) (andThen (each (fieldAliasRows t (d + 1)) (aliasesIn t (o .aliases)))
+        (after (keptCheck t (o .default)) (read [])))))
+        (no NameMissing f))
         (onSpot (o .typed) (schema (d + 1)) (no TypeMissing f))
     go o Nowhere = refl
     go o (At q) =
-        let al = each (fieldAliasRows t (d + 1)) (aliasesIn t (o .aliases)) in
-        let next = onSpot (o .typed) (schema (d + 1)) (no TypeMissing f) in
-        let rs = row Field d q (stringAt t q) in
-        ap (after (simpleCheck t q)) (rows-then rs al next) ∙ after-then (simpleCheck t q) (rowsThen rs al) next
+        checked-then (simpleCheck t q) (keptCheck t (o .default)) (fieldRow t d q (o .default) ∷ []) (each (fieldAliasRows t (d + 1)) (aliasesIn t (o .aliases)))
+        (onSpot (o .typed) (schema (d + 1)) (no TypeMissing f))
 
 module _ (schema : ℕ → ℕ → Out) (t : List ℕ) (d f : ℕ) {o : Members} (e : o ≡ membersOf t f) {m m″ : List ℕ} {c : Counts} {r : Walked} (g : Did m c m″ r (fieldHead t d f o)) where
   pub field-stop : {m′ : List ℕ} {x : Fault} → r ≡ Bad x → Did m c m′ (Bad x) (fieldRows schema t d f)

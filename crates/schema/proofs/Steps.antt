@@ -11,7 +11,8 @@ use Rattle.view.specs.Values.{shapeAt}
 use Rattle.view.specs.Elements.{firstElement, nextElement, elementsAt, elements}
 use Rattle.view.proofs.Laws.{All, Inside, elements-inside, left-start, left-done, left-next}
 use Rattle.form.specs.Spots.{isObject, objectsAmong}
-use Rattle.schema.specs.Out.{Out, refused, read, andThen, each}
+use Rattle.schema.specs.Out.{Out, read, andThen, each}
+use Rattle.schema.proofs.Did.{none-then}
 
 module _ (reads : ℕ → Out) where
   each-none : each reads [] ≡ read []
@@ -40,13 +41,9 @@ module _ (reads : ℕ → Out) where
     objects-next {p} {s′} e f =
         ap (λ (l : List ℕ). each reads (objectsAmong t l)) (left-next t e f) ∙ go (isObject (shapeAt t p)) (objectsAmong t (elementsAt t s′))
       where
-        none : (o : Out) → o ≡ andThen (read []) o
-        none (refused x) = refl
-        none (read xs) = refl
-
         go : (b : Bool) (l : List ℕ) → each reads (cond b (p ∷ l) l) ≡ andThen (cond b (reads p) (read [])) (each reads l)
         go true l = each-one p l
-        go false l = none (each reads l)
+        go false l = none-then (each reads l)
 
 -- all places that are left are within the text
 abbrev pub AllWithin : List ℕ → Spot → Type 0

@@ -1,6 +1,6 @@
 -- What the contracts of the walk cite: from a draft and counts, the rows that were read were pushed.
 -- Assumes nothing.
-use Prim.Native.Nat.{ℕ, _+_, _-_, _*_, _≤_}
+use Prim.Native.Nat.{ℕ, _+_, _-_, _*_, _≤_, _<_}
 use mathlib.Core.Path.{_≡_}
 use mathlib.Core.Bool.{cond}
 use mathlib.Core.List.{List, [], _∷_}
@@ -17,6 +17,7 @@ use Rattle.row.specs.declared.kind.Kind.the-variants.{Bytes, Reference}
 use Rattle.row.specs.declared.Entry.{Entry}
 use Rattle.row.specs.Memory.{countedAll, pushedAll}
 use Rattle.view.specs.declared.space.Spot.{Spot}
+use Rattle.view.specs.declared.space.Spot.the-variants.{At}
 use Rattle.view.specs.declared.members.Members.{Members}
 use Rattle.view.specs.Elements.{elements}
 use Rattle.view.specs.Strings.{stringAt}
@@ -113,6 +114,10 @@ fieldHead t d f m =
 -- an element of `fields`: what is no object is no field
 unfoldable pub elementRows : (ℕ → ℕ → Out) → List ℕ → ℕ → ℕ → Out
 elementRows schema t d p = cond (isObject (shapeAt t p)) (fieldRows schema t d p) (read [])
+
+-- a value's place, where there is one, stands within the text
+pub record InText (t : List ℕ) (s : Spot) : Type 0 where
+  pub within : (v : ℕ) → s ≡ At v → v < length t
 
 -- what a walk asks: each schema in a schema is at most two deeper
 pub record Asks (t : List ℕ) (depth left : ℕ) : Type 0 where

@@ -11,6 +11,7 @@ use name::Full;
 use row::Entry;
 use row::Kind;
 use row::write::push;
+use row::write::push_both;
 use view::Spot;
 use view::first_element;
 use view::literal;
@@ -20,6 +21,7 @@ ghost use mathlib.Core.Path.{_≡_};
 ghost use Prim.Native.Nat.{_≤_, _<_};
 ghost use lib.ListN.{length};
 ghost use Rattle.json.specs.Json.{longest};
+ghost use Rattle.row.specs.Rows.{withDefault, stringsOf};
 ghost use Rattle.row.specs.Memory.{counted, pushed};
 ghost use Rattle.view.specs.Elements.{elementsAt, elements};
 ghost use Rattle.view.specs.Strings.{stringAt};
@@ -67,7 +69,33 @@ pub(crate) fn put(
     push(draft, counts, row, text)
 }
 
-// The same with the string at `at`.
+// A row with the string at `at`, and a default.
+pub(crate) fn put_both(
+    text: &[u8],
+    ends: &[u16],
+    row: Entry,
+    at: usize,
+    default: &[u8],
+    draft: &mut [u8],
+    counts: Counts,
+    word: &mut [u8; Scan::TEXT],
+) -> Counts
+    requires { ⌜ (length (now text) ≤ longest) × Known (now text) (now ends) ⌝ }
+    ensures { λ r. ⌜ (r ≡ counted counts (length (stringsOf (withDefault row (stringAt (now (text .entry)) at) (now (default .entry))))))
+        × (now (draft .exit) ≡ pushed (now (draft .entry)) counts (withDefault row (stringAt (now (text .entry)) at) (now (default .entry)))) ⌝ }
+{
+    let e = literal(text, ends, at);
+    if 0 < e {
+        let start = at + 1;
+        let stop = e - 1;
+        return push_both(draft, counts, row, &text[start..stop], default);
+    }
+    let n = string_copy(text, ends, at, word);
+    let all = &word[..];
+    push_both(draft, counts, row, &all[0..n], default)
+}
+
+// A row with no size and no note, with the string at `at`.
 pub(crate) fn put_string(
     text: &[u8],
     ends: &[u16],
@@ -82,15 +110,13 @@ pub(crate) fn put_string(
     ensures { λ r. ⌜ (r ≡ counted counts (length (stringAt (now (text .entry)) at)))
         × (now (draft .exit) ≡ pushed (now (draft .entry)) counts (rowWith kind depth at (stringAt (now (text .entry)) at) 0 (noted 0))) ⌝ }
 {
-    let e = literal(text, ends, at);
-    if 0 < e {
-        let start = at + 1;
-        let stop = e - 1;
-        return put(draft, counts, kind, depth, at, &text[start..stop]);
-    }
-    let n = string_copy(text, ends, at, word);
-    let all = &word[..];
-    put(draft, counts, kind, depth, at, &all[0..n])
+    let none = Note {
+        note: 0,
+        precision: 0,
+        scale: 0,
+    };
+    let row = entry(kind, depth, at, 0, none);
+    put_both(text, ends, row, at, b"", draft, counts, word)
 }
 
 // ---- aliases of a definition

@@ -5,13 +5,14 @@ use mathlib.Core.Bool.{Bool, true, false, cond}
 use mathlib.Core.List.{List, [], _∷_}
 use Prim.Native.Nat.{ℕ, zero, suc, _+_}
 use lib.Dec.{eqb}
-use Rattle.answer.specs.declared.refusal.Why.the-variants.{NestedTooDeep, NotASchema, TypeMissing, NameMissing, FieldsMissing, SymbolsMissing, SizeMissing, NotASize, ItemsMissing, ValuesMissing}
+use Rattle.answer.specs.declared.refusal.Why.the-variants.{NestedTooDeep, NotASchema, TypeMissing, NameMissing, FieldsMissing, SymbolsMissing, SizeMissing, NotASize, ItemsMissing, ValuesMissing, DefaultTooLong}
 use Rattle.ground.specs.Ascii.{ascii}
 use Rattle.ground.specs.Bytes.{same}
 use Rattle.name.specs.Name.{namespacePart}
+use Rattle.name.specs.Full.{isShort}
 use Rattle.row.specs.Kinds.{kindNumber}
 use Rattle.row.specs.declared.kind.Kind.{Kind}
-use Rattle.row.specs.declared.kind.Kind.the-variants.{Reference, Array, Map, Union, Record, Enum, Fixed, Field}
+use Rattle.row.specs.declared.kind.Kind.the-variants.{Reference, Array, Map, Union, Record, Enum, Fixed}
 use Rattle.view.specs.declared.space.Spot.{Spot}
 use Rattle.view.specs.declared.space.Spot.the-variants.{At, Nowhere}
 use Rattle.view.specs.declared.shape.Shape.{Shape}
@@ -38,8 +39,8 @@ use Rattle.rules.specs.Unions.{called, unnamed, unionCheck}
 use Rattle.rules.specs.Fields.{fieldNamesCheck}
 use Rattle.rules.specs.Symbols.{symbolsCheck, defaultCheck}
 use Rattle.schema.specs.Out.{Out, read, rowsThen, andThen, after, no, each}
-use Rattle.schema.specs.Schema.{rowWith, row, Around, within, newName, newKind, referenceRows, primitiveRows, wordRows, aliasRows, definitionRows, definition, fieldAliasRows, fieldRows, fieldsRows, recordRows, symbolRows, enumRows, fixedRows, partRows, asMember, unionRows, schemaBy, schemaOf}
-use Rattle.told.proofs.Fair.{Fair, other, FairOut, then-fair, after-fair, rows-fair, and-fair, each-fair, spot-fair, cond-fair}
+use Rattle.schema.specs.Schema.{rowWith, row, Around, within, newName, newKind, referenceRows, primitiveRows, wordRows, aliasRows, definitionRows, definition, fieldAliasRows, writtenAt, fieldRow, keptCheck, fieldRows, fieldsRows, recordRows, symbolRows, enumRows, fixedRows, partRows, asMember, unionRows, schemaBy, schemaOf}
+use Rattle.told.proofs.Fair.{Fair, other, FairCheck, must-other, FairOut, then-fair, after-fair, rows-fair, and-fair, each-fair, spot-fair, cond-fair}
 use Rattle.told.proofs.Strings.{Quoted, text-quoted, as-text, aliases-quoted, simple-fair, reference-fair, alias-fair, definition-fair, symbols-fair, default-fair, fields-fair, union-fair}
 
 -- any places
@@ -143,19 +144,27 @@ module _ (t : List ℕ) where
   unfolding fieldAliasRows
   field-alias-row d q o = after-fair t (simpleCheck t q) _ (simple-fair t q o) tt
 
+  -- 48
+  kept-fair : (s : Spot) → FairCheck t (keptCheck t s)
+  unfolding keptCheck
+  kept-fair (At v) = must-other t (isShort (writtenAt t v)) DefaultTooLong v refl
+  kept-fair Nowhere = tt
+
   field-fair : (schema : ℕ → ℕ → Out) → ((d q : ℕ) → FairOut t (schema d q)) → (d f : ℕ) → FairOut t (fieldRows schema t d f)
   unfolding fieldRows
   field-fair schema h d f =
       let m = membersOf t f in
       let aliases = each (fieldAliasRows t (d + 1)) (aliasesIn t (m .aliases)) in
+      let kept = keptCheck t (m .default) in
       let typed = onSpot (m .typed) (schema (d + 1)) (no TypeMissing f) in
-      spot-fair t (asText t (m .name)) (λ q. after (simpleCheck t q) (rowsThen (row Field d q (stringAt t q)) (andThen aliases typed))) (no NameMissing f)
+      spot-fair t (asText t (m .name)) (λ q. after (simpleCheck t q) (rowsThen (fieldRow t d q (m .default) ∷ []) (andThen aliases (after kept typed)))) (no NameMissing f)
       (λ q e.
       after-fair t (simpleCheck t q) _ (simple-fair t q (as-text t (m .name) q e))
-      (rows-fair t (row Field d q (stringAt t q)) (andThen aliases typed)
-      (and-fair t aliases typed
+      (rows-fair t (fieldRow t d q (m .default) ∷ []) (andThen aliases (after kept typed))
+      (and-fair t aliases (after kept typed)
       (each-fair t (Quoted t) (fieldAliasRows t (d + 1)) (field-alias-row (d + 1)) (aliasesIn t (m .aliases)) (aliases-quoted t (m .aliases)))
-      (spot-fair t (m .typed) (schema (d + 1)) (no TypeMissing f) (λ p _. h (d + 1) p) (other t TypeMissing f refl)))))
+      (after-fair t kept typed (kept-fair (m .default))
+      (spot-fair t (m .typed) (schema (d + 1)) (no TypeMissing f) (λ p _. h (d + 1) p) (other t TypeMissing f refl))))))
       (other t NameMissing f refl)
 
   fields-rows : (schema : ℕ → ℕ → Out) → ((d q : ℕ) → FairOut t (schema d q)) → (d : ℕ) (fs : List ℕ) → FairOut t (fieldsRows schema t d fs)

@@ -1,6 +1,7 @@
 -- Any schema: the six functions that read one another meet their contracts.
 -- Assumes nothing.
 use Rattle.schema.proofs.Nested.{member, schema-deep, schema-wrong, schema-word, schema-array, schema-map, schema-union, schema-record, schema-enum, schema-fixed, part-old, part-none, part-one, union-old, union-rows, record-bad, record-none, record-fields, fields-bad, fields-end, fields-done, fields-next, element-none, element-field, field-stop, field-untyped, field-typed}
+use Rattle.schema.proofs.Leaves.{default-in}
 use Rattle.schema.proofs.Steps.{each-done, each-next}
 use Rattle.schema.proofs.Stands.{member-is, sure-here, sure-next, sure-start}
 use Rattle.rules.specs.Members.{SureOf}
@@ -159,7 +160,7 @@ put-field-members-at-requires t c κs = search needs
 
 put-field-put-field-head-requires : (t : ℕ) → put-field-lts.Need-put-field-head-requires (put-field-calls t) (put-field-at t) put-field.Post
 put-field-put-field-head-requires t c κs =
-    let b = c .before .before .before .before .before .before .before .before .before .before .pre .1 .0 .deep in (c .before .before .before .before .before .before .before .before .before .before .pre .1 .0 .short, omega arith, c .before .before .before .before .before .before .before .before .before .before .pre .1 .1)
+    let b = c .before .before .before .before .before .before .before .before .before .before .pre .1 .0 .deep in (c .before .before .before .before .before .before .before .before .before .before .pre .1 .0 .short, omega arith, default-in _ _ (c .before .before .members-at .ensures), c .before .before .before .before .before .before .before .before .before .before .pre .1 .1)
 
 put-field-enum-known-f : (t : ℕ) → put-field-lts.Need-enum-known-f (put-field-calls t) (put-field-at t) put-field.Post
 put-field-enum-known-f t c = search needs

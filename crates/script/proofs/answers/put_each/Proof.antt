@@ -42,7 +42,7 @@ loop-less : tie.Need-loop-less Inv-loop μ-loop
 loop-less c = search needs
 
 loop-again : tie.Need-loop-again Inv-loop μ-loop
-loop-again c = 
+loop-again c =
     (search needs, search needs, rows-turn _ _ _ _ _ _ _ _ (c .before .before .before .before .before .before .before .before .loop .inv .2) _ _ (c .before .before .before .before .before .before .before .loop-test .taken) (put-is (line-is (c .before .before .before .before .before .before .read-row .ensures) (c .before .before .before .before .before .string-of .ensures .0) (c .before .before .before .before .default-of .ensures .0)) (c .before .before .put-row .ensures)))
 
 same-length : tie.Need-same-length Inv-loop μ-loop
