@@ -34,7 +34,7 @@ use Rattle.set.specs.Lists.{Result, becomes, refuses, refuse, next, appe
 use Rattle.set.specs.Calls.{memoryOf}
 use Rattle.set.specs.Steps.{joined, Drafted, IsDraft, Ended}
 use Rattle.set.proofs.Places.{is-good, is-count}
-use Rattle.set.proofs.Appends.{ended-no, ended-done, ended-as, told-no, told-done, flat-more, rows-more, places-are, rows-are}
+use Rattle.set.proofs.Appends.{ended-no, ended-done, ended-as, ended-by, told-no, told-done, flat-more, rows-more, places-are, rows-are}
 
 -- ---- what becomes of a set
 
@@ -89,65 +89,67 @@ module _ (ds : List (List Row)) (rows : List Row) where
       go (becomes l) (Faulty y) p q x = let z : _≡_ {A = ℕ} 0 1 = cc in absurd (omega arith)
       go (becomes l) Resolved p q x = record { joins = joins d (p ∙ x); fitting = q }
 
--- ---- the tests of append: m is the set, c its counts, n and bytes stand for rows in `from`, and join answered a and left m′
+-- ---- the tests of append: n and bytes stand for rows in `from`, and join answered a and left m′ of m
 
-module _ (m : List ℕ) (w : wellFormed m ≡ true) (free : countIn m < declarationLimit) (c : Counts) (e : c ≡ countsIn m) («from» : List ℕ) (start n bytes : ℕ) (a : Answer) (m′ : List ℕ) (did : (rows : List Row) → Drafted «from» start n bytes rows → Ended m m′ a (joined (decode m) rows)) where
-  pub append-refused : {r : Refusal} → a ≡ Refused r → (rows : List Row) → Drafted «from» start n bytes rows → Ended m′ m′ (Refused r) (append (decode m) rows)
-  append-refused {r} g rows d = ended-no m′ r (append-joined (decode m) rows ∙ rw (told-no (joined (decode m) rows) (did rows d .answer) g))
+module _ (m «from» : List ℕ) (start n bytes : ℕ) (a : Answer) (m′ : List ℕ) (did : (rows : List Row) → Drafted «from» start n bytes rows → Ended m m′ a (joined (decode m) rows)) where
+  pub append-refused : {r : Refusal} → a ≡ Refused r → (rows : List Row) → Drafted «from» start n bytes rows → Ended m′ m′ a (append (decode m) rows)
+  append-refused {r} g rows d = ended-by (sym g) (ended-no m′ r (append-joined (decode m) rows ∙ rw (told-no (joined (decode m) rows) (did rows d .answer) g)))
 
-  module _ {k : Counts} (g : a ≡ Done k) where
-    module _ (rows : List Row) (d : Drafted «from» start n bytes rows) where
-      told : (l : List (List Row)) × (joined (decode m) rows ≡ becomes l) × (k ≡ setCounts l)
-      told = told-done (joined (decode m) rows) (did rows d .answer) g
+  -- c counts the set that m holds
+  module _ (w : wellFormed m ≡ true) (free : countIn m < declarationLimit) (c : Counts) (e : c ≡ countsIn m) where
+    module _ {k : Counts} (g : a ≡ Done k) where
+      module _ (rows : List Row) (d : Drafted «from» start n bytes rows) where
+        told : (l : List (List Row)) × (joined (decode m) rows ≡ becomes l) × (k ≡ setCounts l)
+        told = told-done (joined (decode m) rows) (did rows d .answer) g
 
-      made : Joined (decode m) rows (told .0)
-      made = joins (decode m) rows (told .0) (told .1)
+        made : Joined (decode m) rows (told .0)
+        made = joins (decode m) rows (told .0) (told .1)
 
-      within : Within (decode m ++ (rows ∷ []))
-      within = more-within (decode m) rows (is-good m w) (omega (arith, is-count m w)) (made .fit) (made .room) (d .kept)
+        within : Within (decode m ++ (rows ∷ []))
+        within = more-within (decode m) rows (is-good m w) (omega (arith, is-count m w)) (made .fit) (made .room) (d .kept)
 
-      holds : m′ ≡ encode (decode m ++ (rows ∷ []))
-      unfolding memoryOf
-      holds = did rows d .memory ∙ ap (memoryOf m) (told .1) ∙ ap encode (made .is)
+        holds : m′ ≡ encode (decode m ++ (rows ∷ []))
+        unfolding memoryOf
+        holds = did rows d .memory ∙ ap (memoryOf m) (told .1) ∙ ap encode (made .is)
 
-      own : n ≡ length rows
-      own = omega (arith, d .counted, made .fit)
+        own : n ≡ length rows
+        own = omega (arith, d .counted, made .fit)
 
-      ends : c .rows + n ≡ length (flat (decode m ++ (rows ∷ [])))
-      ends = omega (arith, own, rows-are m w c e, rows-more (decode m) rows within)
+        ends : c .rows + n ≡ length (flat (decode m ++ (rows ∷ [])))
+        ends = omega (arith, own, rows-are m w c e, rows-more (decode m) rows within)
 
-      all-rows : rowsFrom m′ (c .rows + n) 0 ≡ flat (decode m) ++ rows
-      all-rows =
-          ap₂ (λ (x : List ℕ) (i : ℕ). rowsFrom x i 0) holds ends
-          ∙ rows-encode (decode m ++ (rows ∷ [])) within (length (flat (decode m ++ (rows ∷ [])))) 0 (omega arith)
-          ∙ take-all (length (flat (decode m ++ (rows ∷ [])))) (flat (decode m ++ (rows ∷ []))) (omega arith) ∙ flat-more (decode m) rows within
+        all-rows : rowsFrom m′ (c .rows + n) 0 ≡ flat (decode m) ++ rows
+        all-rows =
+            ap₂ (λ (x : List ℕ) (i : ℕ). rowsFrom x i 0) holds ends
+            ∙ rows-encode (decode m ++ (rows ∷ [])) within (length (flat (decode m ++ (rows ∷ [])))) 0 (omega arith)
+            ∙ take-all (length (flat (decode m ++ (rows ∷ [])))) (flat (decode m ++ (rows ∷ []))) (omega arith) ∙ flat-more (decode m) rows within
 
-      own-rows : rowsFrom m′ n (c .rows) ≡ rows
-      own-rows =
-          ap (λ (x : List ℕ). rowsFrom x n (c .rows)) holds ∙ rows-encode (decode m ++ (rows ∷ [])) within n (c .rows) (omega (arith, ends))
-          ∙ ap₂ (λ (i : ℕ) (x : List Row). take n (drop i x)) (rows-are m w c e) (flat-more (decode m) rows within)
-          ∙ ap (take n) (drop-append-seam (flat (decode m)) rows) ∙ take-all n rows (omega (arith, own))
+        own-rows : rowsFrom m′ n (c .rows) ≡ rows
+        own-rows =
+            ap (λ (x : List ℕ). rowsFrom x n (c .rows)) holds ∙ rows-encode (decode m ++ (rows ∷ [])) within n (c .rows) (omega (arith, ends))
+            ∙ ap₂ (λ (i : ℕ) (x : List Row). take n (drop i x)) (rows-are m w c e) (flat-more (decode m) rows within)
+            ∙ ap (take n) (drop-append-seam (flat (decode m)) rows) ∙ take-all n rows (omega (arith, own))
 
-      long : length m′ ≡ layoutLength
-      long = ap length holds ∙ length-encode (decode m ++ (rows ∷ [])) within
+        long : length m′ ≡ layoutLength
+        long = ap length holds ∙ length-encode (decode m ++ (rows ∷ [])) within
 
-    -- what first_misfit asks
-    pub misfit-asks : IsDraft «from» start n bytes → (length m′ ≡ layoutLength) × (c .rows + n ≤ rowLimit)
-    misfit-asks d =
-        (long (d .rows) (d .drafted), omega (arith, own (d .rows) (d .drafted), rows-are m w c e, made (d .rows) (d .drafted) .fit))
+      -- what first_misfit asks
+      pub misfit-asks : IsDraft «from» start n bytes → (length m′ ≡ layoutLength) × (c .rows + n ≤ rowLimit)
+      misfit-asks d =
+          (long (d .rows) (d .drafted), omega (arith, own (d .rows) (d .drafted), rows-are m w c e, made (d .rows) (d .drafted) .fit))
 
-    module _ (f : Resolution) (found : f ≡ misfitIn (rowsFrom m′ (c .rows + n) 0) (rowsFrom m′ n (c .rows))) where
-      tested : (rows : List Row) (d : Drafted «from» start n bytes rows) → append (decode m) rows ≡ onResolved f (length (decode m)) (becomes (told rows d .0))
-      tested rows d =
-          let h : f ≡ misfitIn (flat (decode m) ++ rows) rows = found ∙ ap₂ misfitIn (all-rows rows d) (own-rows rows d) in
-          append-joined (decode m) rows ∙ rw (told rows d .1, ← h)
+      module _ (f : Resolution) (found : f ≡ misfitIn (rowsFrom m′ (c .rows + n) 0) (rowsFrom m′ n (c .rows))) where
+        tested : (rows : List Row) (d : Drafted «from» start n bytes rows) → append (decode m) rows ≡ onResolved f (length (decode m)) (becomes (told rows d .0))
+        tested rows d =
+            let h : f ≡ misfitIn (flat (decode m) ++ rows) rows = found ∙ ap₂ misfitIn (all-rows rows d) (own-rows rows d) in
+            append-joined (decode m) rows ∙ rw (told rows d .1, ← h)
 
-      pub append-misfit : {x : Fault} → f ≡ Faulty x → (rows : List Row) → Drafted «from» start n bytes rows → {r : Refusal} → r ≡ placed x (c .declarations)
-          → Ended m′ m′ (Refused r) (append (decode m) rows)
-      append-misfit b rows d h = rw h (ended-no m′ _ (tested rows d ∙ rw (b, places-are m w c e)))
+        pub append-misfit : {x : Fault} → f ≡ Faulty x → (rows : List Row) → Drafted «from» start n bytes rows → {r : Refusal} → r ≡ placed x (c .declarations)
+            → Ended m′ m′ (Refused r) (append (decode m) rows)
+        append-misfit b rows d h = rw h (ended-no m′ _ (tested rows d ∙ rw (b, places-are m w c e)))
 
-      pub append-done : f ≡ Resolved → (rows : List Row) → Drafted «from» start n bytes rows → Ended m′ m′ (Done k) (append (decode m) rows)
-      append-done b rows d = ended-done m′ (told rows d .0) (tested rows d ∙ rw b) (told rows d .2) (holds rows d ∙ ap encode (sym (made rows d .is)))
+        pub append-done : f ≡ Resolved → (rows : List Row) → Drafted «from» start n bytes rows → Ended m′ m′ (Done k) (append (decode m) rows)
+        append-done b rows d = ended-done m′ (told rows d .0) (tested rows d ∙ rw b) (told rows d .2) (holds rows d ∙ ap encode (sym (made rows d .is)))
 
 -- ---- memory behind a declaration that was accepted
 

@@ -49,6 +49,10 @@ ended-done m ds e p q = record { answer = ap ofCounts p ∙ sym (ap answerOf e);
 pub ended-as : {m m′ : List ℕ} {r : Answer} {x y : Result} → x ≡ y → Ended m m′ r y → Ended m m′ r x
 ended-as e d = record { answer = d .answer ∙ ap answerOf (sym e); memory = d .memory ∙ ap (memoryOf _) (sym e) }
 
+-- the same of an equal answer
+pub ended-by : {m m′ : List ℕ} {a b : Answer} {x : Result} → a ≡ b → Ended m m′ a x → Ended m m′ b x
+ended-by e d = record { answer = ap numbersOf (sym e) ∙ d .answer; memory = d .memory }
+
 -- ---- what an answer tells
 
 pub told-no : (x : Result) {a : Answer} {r : Refusal} → numbersOf a ≡ answerOf x → a ≡ Refused r → x ≡ refuses r

@@ -1,8 +1,10 @@
 -- `set::append::append` meets its contract.
 -- Assumes nothing.
 use Rattle.set.proofs.Places.{counts-asks}
+use Rattle.set.proofs.Appends.{ended-by}
 use Rattle.set.proofs.Accepts.{append-refused, misfit-asks, append-misfit, append-done}
 use borrow.Author.Needs.{needs}
+use native.Mathlib.Omega.{arith}
 use Rattle.set.proofs.append.append.Statement.{statement}
 use Rattle.set.proofs.append.append.Tie as tie
 
@@ -20,7 +22,7 @@ enum-known-a-2 c = search needs
 
 first-misfit-requires : tie.Need-first-misfit-requires
 first-misfit-requires c κs =
-    misfit-asks _ (c .before .before .before .before .before .before .before .before .before .before .before .before .pre .0) (c .before .before .before .before .before .before .before .before .before .before .before .before .pre .1) _ (c .before .before .before .before .before .before .before .before .counts .ensures) _ _ _ _ _ _ (c .before .before .before .before .before .before .join .ensures) (c .before .before .a2 .given .1) (c .before .before .before .before .before .before .before .before .before .before .before .before .pre .2)
+    let d = misfit-asks _ _ _ _ _ _ _ (c .before .before .before .before .before .before .join .ensures) (c .before .before .before .before .before .before .before .before .before .before .before .before .pre .0) (c .before .before .before .before .before .before .before .before .before .before .before .before .pre .1) _ (c .before .before .before .before .before .before .before .before .counts .ensures) (c .before .before .a2 .given .1) (c .before .before .before .before .before .before .before .before .before .before .before .before .pre .2) in (d .0, omega (arith, d .1))
 
 enum-known-defaults : tie.Need-enum-known-defaults
 enum-known-defaults c = search needs
@@ -35,21 +37,21 @@ same-length : tie.Need-same-length
 same-length c = search needs
 
 returns : tie.Need-returns
-returns c = append-refused _ (c .before .before .before .before .before .before .before .before .before .before .before .pre .0) (c .before .before .before .before .before .before .before .before .before .before .before .pre .1) _ (c .before .before .before .before .before .before .before .counts .ensures) _ _ _ _ _ _ (c .before .before .before .before .before .join .ensures) (c .before .a .given .1)
+returns c = λ rows d. ended-by (c .before .a .given .1) (append-refused _ _ _ _ _ _ _ (c .before .before .before .before .before .join .ensures) (c .before .a .given .1) rows d)
 
 same-length-2 : tie.Need-same-length-2
 same-length-2 c = search needs
 
 returns-2 : tie.Need-returns-2
 returns-2 c =
-    λ rows d. append-misfit _ (c .before .before .before .before .before .before .before .before .before .before .before .before .before .before .before .before .before .pre .0) (c .before .before .before .before .before .before .before .before .before .before .before .before .before .before .before .before .before .pre .1) _ (c .before .before .before .before .before .before .before .before .before .before .before .before .before .counts .ensures) _ _ _ _ _ _ (c .before .before .before .before .before .before .before .before .before .before .before .join .ensures) (c .before .before .before .before .before .before .before .a2 .given .1) _ (c .before .before .before .before .first-misfit .ensures) (c .before .before .defaults .given .1) rows d (c .placed .ensures)
+    λ rows d. append-misfit _ _ _ _ _ _ _ (c .before .before .before .before .before .before .before .before .before .before .before .join .ensures) (c .before .before .before .before .before .before .before .before .before .before .before .before .before .before .before .before .before .pre .0) (c .before .before .before .before .before .before .before .before .before .before .before .before .before .before .before .before .before .pre .1) _ (c .before .before .before .before .before .before .before .before .before .before .before .before .before .counts .ensures) (c .before .before .before .before .before .before .before .a2 .given .1) _ (c .before .before .before .before .first-misfit .ensures) (c .before .before .defaults .given .1) rows d (c .placed .ensures)
 
 same-length-3 : tie.Need-same-length-3
 same-length-3 c = search needs
 
 returns-3 : tie.Need-returns-3
 returns-3 c =
-    append-done _ (c .before .before .before .before .before .before .before .before .before .before .before .before .before .before .before .pre .0) (c .before .before .before .before .before .before .before .before .before .before .before .before .before .before .before .pre .1) _ (c .before .before .before .before .before .before .before .before .before .before .before .counts .ensures) _ _ _ _ _ _ (c .before .before .before .before .before .before .before .before .before .join .ensures) (c .before .before .before .before .before .a2 .given .1) _ (c .before .before .first-misfit .ensures) (c .enum-told .given .1)
+    append-done _ _ _ _ _ _ _ (c .before .before .before .before .before .before .before .before .before .join .ensures) (c .before .before .before .before .before .before .before .before .before .before .before .before .before .before .before .pre .0) (c .before .before .before .before .before .before .before .before .before .before .before .before .before .before .before .pre .1) _ (c .before .before .before .before .before .before .before .before .before .before .before .counts .ensures) (c .before .before .before .before .before .a2 .given .1) _ (c .before .before .first-misfit .ensures) (c .enum-told .given .1)
 
 pub append-spec : {M : Type 1} → statement M
 append-spec =
