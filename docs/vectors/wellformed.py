@@ -1,6 +1,6 @@
 #!/usr/bin/env python3
-"""Verdicts of well-formedness, by a decoder written from docs/LAYOUT.md, document 01 and, for a decimal's note 7, request A10 of 02
-alone.
+"""Verdicts of well-formedness, by a decoder written from docs/LAYOUT.md, document 01 and two requests of 02 alone: A10 for a decimal's
+note 7, A6 for the default of a field, which is one JSON value by scan.py and fits its type by fitting.py.
 
     python3 docs/vectors/wellformed.py stdin  > crates/resolve_run/stdin
     python3 docs/vectors/wellformed.py stdout > crates/resolve_run/stdout
@@ -14,9 +14,14 @@ A line of stdin is a command of the program resolve_run:
                  a time, and judge the memory each time: three digits for each byte, then the end of the line
     n            the end of the line
 """
+import os
 import re
 import struct
 import sys
+
+sys.path.insert(0, os.path.dirname(os.path.abspath(__file__)))
+import fitting
+import scan
 
 LENGTH, ROWS, ROW, STRINGS = 51266, 66, 34, 34882
 KINDS = {1: "null", 2: "boolean", 3: "int", 4: "long", 5: "float", 6: "double", 7: "bytes", 8: "string", 16: "reference",
@@ -53,14 +58,13 @@ def declarations(mem):
     for k in range(n):
         rows = []
         for _ in range(counts[k]):
-            kind, note, depth, position, length, default, start, size, precision, scale = struct.unpack_from("<BBHHBBHQQQ", mem, ROWS + ROW * i)
+            kind, note, depth, position, length, more, start, size, precision, scale = struct.unpack_from("<BBHHBBHQQQ", mem, ROWS + ROW * i)
             need(kind in KINDS)
             need(start == end)
-            need(default == 0)
-            end += length
+            end += length + more
             need(end <= 16384)
-            text = bytes(mem[STRINGS + start:STRINGS + end])
-            rows.append(dict(kind=KINDS[kind], note=note, depth=depth, position=position, text=text, size=size, precision=precision, scale=scale))
+            both = bytes(mem[STRINGS + start:STRINGS + end])
+            rows.append(dict(kind=KINDS[kind], note=note, depth=depth, position=position, text=both[:length], default=both[length:], size=size, precision=precision, scale=scale))
             i += 1
         out.append(rows)
     need(not any(mem[ROWS + ROW * total:STRINGS]))
@@ -91,7 +95,14 @@ def check_row(r):
     else:
         need(s == b"")
     need(r["position"] < 32768)
-    need(kind == "fixed" or r["size"] == 0)
+    if r["default"]:
+        need(kind == "field")
+        need(r["size"] < 32768)
+        # one value, valid UTF-8, nested at most 64 deep, and nothing before it or behind it
+        need(scan.scan(r["default"]) is None)
+        need(r["default"][0] not in b" \t\r\n" and r["default"][-1] not in b" \t\r\n")
+    else:
+        need(kind == "fixed" or r["size"] == 0)
     need(r["note"] <= {"bytes": 6, "fixed": 7}.get(kind, 0))
     if r["note"] == 1:
         need(r["precision"] >= 1 and r["precision"] >= r["scale"])
@@ -161,6 +172,14 @@ def well_formed(mem):
                 names.add(r["text"])
             elif r["kind"] == "reference":
                 need(r["text"] in names)
+        # each default fits its type, among the rows up to and with its own declaration's
+        so_far = []
+        for rows in ds:
+            so_far += rows
+            if any(r["default"] for r in rows):
+                types = fitting.Types((r["kind"], r["depth"], r["text"], r["size"], r["default"]) for r in so_far)
+                for i in range(len(so_far) - len(rows), len(so_far)):
+                    need(so_far[i]["default"] == b"" or types.default_fits(i))
         return True
     except Bad:
         return False
@@ -168,8 +187,9 @@ def well_formed(mem):
 
 # ---- writing memory
 
-def row(kind, depth, text=b"", position=0, size=0, note=0, precision=0, scale=0):
-    return kind, depth, text, position, size, note, precision, scale
+def row(kind, depth, text=b"", position=0, size=0, note=0, precision=0, scale=0, default=b""):
+    """A field's size is the position of its default."""
+    return kind, depth, text, position, size, note, precision, scale, default
 
 
 def encode(ds):
@@ -179,11 +199,13 @@ def encode(ds):
     for k, rows in enumerate(ds):
         if k < 32:
             struct.pack_into("<H", mem, 2 + 2 * k, len(rows))
-        for kind, depth, text, position, size, note, precision, scale in rows:
+        for kind, depth, text, position, size, note, precision, scale, default in rows:
             # a length above 255, which no row has, runs into the byte behind it
-            struct.pack_into("<BBHHHHQQQ", mem, ROWS + ROW * i, NUMBERS[kind], note, depth, position, len(text), end, size, precision, scale)
-            mem[STRINGS + end:STRINGS + end + len(text)] = text
-            i, end = i + 1, end + len(text)
+            lengths = len(text) + 256 * len(default)
+            struct.pack_into("<BBHHHHQQQ", mem, ROWS + ROW * i, NUMBERS[kind], note, depth, position, lengths, end, size, precision, scale)
+            both = text + default
+            mem[STRINGS + end:STRINGS + end + len(both)] = both
+            i, end = i + 1, end + len(both)
     return mem
 
 
