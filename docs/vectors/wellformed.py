@@ -576,7 +576,7 @@ def default_lines():
                 assert well_formed(mem) == good
                 commands += ["s%04x%02x" % (at, 126 + more), "j%04x" % LENGTH]
                 line.append("%d" % good)
-        if k % 64 == 63 or k == len(sets) - 1:
+        if k % 32 == 31 or k == len(sets) - 1:
             commands.append("n")
             printed.append("".join(line))
             line = []
@@ -585,7 +585,7 @@ def default_lines():
     commands += ["c"] + store(mem)
     rows = sum(len(d) for d in DEFAULTS_SET)
     text = sum(len(r[2]) + len(r[8]) for d in DEFAULTS_SET for r in d)
-    for at, n in [(ROWS + ROW * i, ROW) for i in range(rows)] + [(STRINGS, text + 2)]:
+    for at, n in [(ROWS + ROW * i, ROW) for i in range(rows)] + [(STRINGS + i, min(50, text + 2 - i)) for i in range(0, text + 2, 50)]:
         commands.append("d%04x%04x" % (at, n))
         printed.append(damaged(mem, at, n))
     return commands, printed
