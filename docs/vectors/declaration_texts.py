@@ -1,16 +1,18 @@
 #!/usr/bin/env python3
 """The texts of declaration.py, each with the answer that was worked out by hand from document 01 and, where 7 stands, from
-request A2 of 02; a decimal's note 7 is that of request A10.
+request A2 of 02; a decimal's note 7 is that of request A10, a field's default and 48 are those of request A6.
 
 In a text ^ marks the byte where the refusal must stand and is left out; in an accepted text the marks, if there are any, are
-the positions of all rows. ~40~ stands for the letter n forty times. Rows are written `DEPTH KIND STRING`, with `=SIZE` and
-`#NOTE` or `#1,PRECISION,SCALE` where these are not 0, separated by `; `; or `ROWS/BYTES` where only the counts are given.
+the positions of all rows and of all defaults of fields. ~40~ stands for the letter n forty times. Rows are written `DEPTH KIND
+STRING`, with `=SIZE` and `#NOTE` or `#1,PRECISION,SCALE` where these are not 0 and `:DEFAULT` where a field has one, separated by
+`; `; or `ROWS/BYTES` where only the counts are given. In DEFAULT %20 is a blank, and so with other bytes that would not do.
 """
 import collections
 import itertools
 import json
 import random
 import re
+import urllib.parse
 
 Case = collections.namedtuple("Case", "label text number position rows marks")
 CASES = []
@@ -41,20 +43,22 @@ def yes(label, rows, text):
 
 
 def expected_rows(rows):
-    """[(kind, depth, string, size, note, precision, scale)] from the short form."""
+    """[(kind, depth, string, size, note, precision, scale, default)] from the short form."""
     out = []
     for r in rows.split(";"):
         words = r.split()
-        depth, kind, string, size, note = int(words[0]), words[1], "", 0, (0, 0, 0)
+        depth, kind, string, size, note, default = int(words[0]), words[1], "", 0, (0, 0, 0), b""
         for w in words[2:]:
             if w[0] == "=":
                 size = int(w[1:])
             elif w[0] == "#":
                 note = tuple(int(x) for x in (w[1:] + ",0,0").split(",")[:3])
+            elif w[0] == ":":
+                default = unmarked(urllib.parse.unquote_to_bytes(w[1:]))[0]
             else:
                 string = w
         string = unmarked(string)[0]
-        out.append((kind, depth, string, size) + note)
+        out.append((kind, depth, string, size) + note + (default,))
     return out
 
 
@@ -73,13 +77,15 @@ def judge(case, got):
         want = expected_rows(case.rows)
         have = []
         for line in got[:-1]:
-            _, kind, depth, _, size, note, precision, scale, string = line.split(" ")
-            string = b"" if string == "-" else bytes.fromhex(string)
-            have.append((kind, int(depth), string, int(size), int(note), int(precision), int(scale)))
+            _, kind, depth, _, size, note, precision, scale, string, at, default = line.split(" ")
+            string, default = (b"" if x == "-" else bytes.fromhex(x) for x in (string, default))
+            assert default or at == "0", (case.label, line)
+            have.append((kind, int(depth), string, int(size), int(note), int(precision), int(scale), default))
         assert have == want, (case.label, case.text, want, have)
-        assert got[-1] == "end %d %d" % (len(want), sum(len(w[2]) for w in want)), (case.label, got[-1])
+        assert got[-1] == "end %d %d" % (len(want), sum(len(w[2]) + len(w[7]) for w in want)), (case.label, got[-1])
     if case.marks is not None:
-        assert sorted(int(line.split(" ")[3]) for line in got[:-1]) == case.marks, (case.label, case.text, case.marks, got)
+        lines = [line.split(" ") for line in got[:-1]]
+        assert sorted([int(w[3]) for w in lines] + [int(w[9]) for w in lines if w[10] != "-"]) == case.marks, (case.label, case.text, case.marks, got)
 
 
 # ---- 01's own listing, and texts as users write them
@@ -88,8 +94,8 @@ yes("01's listing", "0 record a.R; 1 field x; 2 int; 1 field next; 2 union; 3 nu
     '{"type":"record","name":^"R","namespace":"a","fields":[{"name":^"x","type":^"int"},{"name":^"next","type":^[^"null",^"R"]}]}')
 yes("01's listing, its canonical text", "0 record a.R; 1 field x; 2 int; 1 field next; 2 union; 3 null; 3 reference a.R",
     '{"name":^"a.R","type":"record","fields":[{"name":^"x","type":^"int"},{"name":^"next","type":^[^"null",^"a.R"]}]}')
-yes("a user record over lines", "0 record com.example.hr.Employee; 1 field id; 2 long; 1 field name; 2 string; 1 field email; 2 union; 3 null; 3 string; "
-    "1 field salary; 2 bytes #1,12,2; 1 field manager; 2 union; 3 null; 3 reference com.example.hr.Employee; 1 field tags; 2 map; 3 array; 4 string; "
+yes("a user record over lines", "0 record com.example.hr.Employee; 1 field id; 2 long; 1 field name; 2 string; 1 field email :null; 2 union; 3 null; 3 string; "
+    "1 field salary; 2 bytes #1,12,2; 1 field manager :null; 2 union; 3 null; 3 reference com.example.hr.Employee; 1 field tags; 2 map; 3 array; 4 string; "
     "1 field grade; 2 enum com.example.hr.Grade; 3 alias com.example.hr.Level; 3 symbol JUNIOR; 3 symbol SENIOR; 1 field badge; 2 fixed com.example.hr.Badge =16", """
 {
   "type": "record",
@@ -99,9 +105,9 @@ yes("a user record over lines", "0 record com.example.hr.Employee; 1 field id; 2
   "fields": [
     {"name": ^"id", "type": ^"long"},
     {"name": ^"name", "type": ^"string", "doc": "as on the contract"},
-    {"name": ^"email", "type": ^[^"null", ^"string"], "default": null},
+    {"name": ^"email", "type": ^[^"null", ^"string"], "default": ^null},
     {"name": ^"salary", "type": {"type": ^"bytes", "logicalType": "decimal", "precision": 12, "scale": 2}},
-    {"name": ^"manager", "type": ^[^"null", ^"Employee"], "default": null},
+    {"name": ^"manager", "type": ^[^"null", ^"Employee"], "default": ^null},
     {"name": ^"tags", "type": ^{"type": "map", "values": ^{"type": "array", "items": ^"string"}}, "order": "ignore"},
     {"name": ^"grade", "type": {"type": "enum", "name": ^"Grade", "aliases": [^"Level"], "symbols": [^"JUNIOR", ^"SENIOR"], "default": "JUNIOR"}},
     {"name": ^"badge", "type": {"type": "fixed", "name": ^"Badge", "size": 16}}
@@ -134,7 +140,7 @@ yes("a module summary", "0 record ld.Summary; 1 field unit; 2 string; 1 field se
     '{"name":"name","aliases":["label"],"type":"string"},{"name":"size","type":"long"},{"name":"flags","type":["null","Flags"]}]}}},{"name":"sum","type":{"type":"fixed","name":"Sum","size":8}}]}')
 yes("a tree of a map of itself", "0 record Tree; 1 field label; 2 string; 1 field kids; 2 map; 3 reference Tree",
     '{"type":"record","name":"Tree","fields":[{"name":"label","type":"string"},{"name":"kids","type":{"type":"map","values":"Tree"}}]}')
-yes("an event with two records in a union", "0 record log.Event; 1 field at; 2 long; 1 field what; 2 union; 3 record log.Start; 4 field pid; 5 int; 3 record log.Stop; 4 field code; 5 union; 6 null; 6 int",
+yes("an event with two records in a union", "0 record log.Event; 1 field at; 2 long; 1 field what; 2 union; 3 record log.Start; 4 field pid; 5 int; 3 record log.Stop; 4 field code :null; 5 union; 6 null; 6 int",
     '{"type":"record","name":"Event","namespace":"log","fields":[{"name":"at","type":{"type":"long","logicalType":"timestamp-millis"}},{"name":"what","type":['
     '{"type":"record","name":"Start","fields":[{"name":"pid","type":"int"}]},{"type":"record","name":"Stop","fields":[{"name":"code","type":["null","int"],"default":null}]}]}]}')
 
@@ -552,7 +558,7 @@ yes("a default", "0 enum E; 1 symbol A; 1 symbol B", '{"type":"enum","name":"E",
 yes("a default spelt with an escape", "0 enum E; 1 symbol A", r'{"type":"enum","name":"E","symbols":["A"],"default":"\u0041"}')
 yes("a symbol spelt with an escape, the default plain", "0 enum E; 1 symbol A", r'{"type":"enum","name":"E","symbols":["\u0041"],"default":"A"}')
 yes("a default given twice, the last good", "0 enum E; 1 symbol A", '{"type":"enum","name":"E","symbols":["A"],"default":5,"default":"A"}')
-yes("a default of a record, an array, a fixed is not looked at", "0 record R; 1 field f; 2 array; 3 fixed F =1; 1 field g; 2 enum E; 3 symbol A",
+yes("a default of a record, an array, a fixed is not looked at", "0 record R; 1 field f :{}; 2 array; 3 fixed F =1; 1 field g :5; 2 enum E; 3 symbol A",
     '{"type":"record","name":"R","default":5,"fields":[{"name":"f","default":{},"type":{"type":"array","default":1,"items":{"type":"fixed","name":"F","default":7,"size":1}}},{"name":"g","default":5,"type":{"type":"enum","name":"E","symbols":["A"]}}]}')
 
 # ---- 17, 18: a fixed's size
@@ -1247,8 +1253,13 @@ def made(seed, site=None, fit=False):
     return maker, bytes(out), rows, places
 
 
-def row_lines(rows, places):
-    return ["row %s %d %d %d %d %d %d %s" % (k, d, places[m], size, note, p, sc, s.encode().hex() or "-") for k, d, m, s, size, note, p, sc in rows]
+def row_lines(rows, places, held=None):
+    """held has for the mark of a field's name its default: mark and text."""
+    out = []
+    for k, d, m, s, size, note, p, sc in rows:
+        at, default = (held or {}).get(m, (None, ""))
+        out.append("row %s %d %d %d %d %d %d %s %d %s" % (k, d, places[m], size, note, p, sc, s.encode().hex() or "-", places[at] if at else 0, default.encode().hex() or "-"))
+    return out
 
 
 def generated():
@@ -1639,7 +1650,7 @@ fit("every size, at the limit", "0 record R" + "".join("; 1 field f%d; 2 fixed F
     '{"type":"record","name":^"R","fields":[%s]}' % ",".join('{"name":^"f%d","type":%s}' % (i, fixed_decimal(i, m, None, "F%d" % i)) for i, m in enumerate(SIXTEEN, 1)))
 fit("every size, one above", "0 union" + "".join("; 1 fixed F%d =%d #7" % (i, i) for i, m in enumerate(SIXTEEN, 1)), "^[%s]" % ",".join(fixed_decimal(i, m + 1, m, "F%d" % i) for i, m in enumerate(SIXTEEN, 1)))
 fit("twenty digits at every size", "0 union" + "".join("; 1 fixed F%d =%d #%s" % (i, i, "7" if i < 9 else "1,20,0") for i in range(19)), "^[%s]" % ",".join(fixed_decimal(i, 20, None, "F%d" % i) for i in range(19)))
-fit("a ledger over lines", "0 record bank.Entry; 1 field amount; 2 fixed bank.Amount =8 #1,18,2; 1 field total; 2 fixed bank.Total =8 #7; 1 field rate; 2 bytes #1,60,40; 1 field fee; 2 union; 3 null; 3 reference bank.Amount", """
+fit("a ledger over lines", "0 record bank.Entry; 1 field amount; 2 fixed bank.Amount =8 #1,18,2; 1 field total; 2 fixed bank.Total =8 #7; 1 field rate; 2 bytes #1,60,40; 1 field fee :null; 2 union; 3 null; 3 reference bank.Amount", """
 {
   "type": "record",
   "name": ^"Entry",
@@ -1648,7 +1659,7 @@ fit("a ledger over lines", "0 record bank.Entry; 1 field amount; 2 fixed bank.Am
     {"name": ^"amount", "type": {"type": "fixed", "name": ^"Amount", "size": 8, "logicalType": "decimal", "precision": 18, "scale": 2}},
     {"name": ^"total", "type": {"type": "fixed", "name": ^"Total", "size": 8, "logicalType": "decimal", "precision": 20, "scale": 2}},
     {"name": ^"rate", "type": {"type": ^"bytes", "logicalType": "decimal", "precision": 60, "scale": 40}},
-    {"name": ^"fee", "type": ^[^"null", ^"Amount"], "default": null}
+    {"name": ^"fee", "type": ^[^"null", ^"Amount"], "default": ^null}
   ]
 }
 """)
