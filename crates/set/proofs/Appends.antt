@@ -1,6 +1,6 @@
--- One declaration more: its rows written behind those of a set, and the four tests before that.
+-- One declaration more, but for 47: its rows written behind those of a set, and the four tests before that.
 -- Assumes nothing.
-use mathlib.Core.Path.{_≡_, sym, ap, ap₂, _∙_}
+use mathlib.Core.Path.{_≡_, refl, sym, ap, ap₂, _∙_}
 use mathlib.Core.Bool.{true, false}
 use mathlib.Core.List.{List, [], _∷_, _++_, append-nil}
 use Prim.Native.Nat.{ℕ, _+_, _-_, _<_, _≤_}
@@ -10,7 +10,8 @@ use lib.ListN.{length, length-append}
 use borrow.Author.Tests.{lt-ltb, le-ltb}
 use Rattle.answer.specs.declared.Answer.{Answer}
 use Rattle.answer.specs.declared.Answer.the-variants.{Done, Refused}
-use Rattle.answer.specs.Answers.{ofCounts}
+use Rattle.answer.specs.Answers.{numbersOf, ofCounts}
+use Rattle.answer.proofs.Laws.{refusal-one, counts-one, never-both}
 use Rattle.answer.specs.declared.counts.Counts.{Counts}
 use Rattle.answer.specs.declared.refusal.Why.the-variants.{TooManyRows, TooManyStringBytes}
 use Rattle.answer.specs.declared.refusal.Refusal.{Refusal}
@@ -25,14 +26,14 @@ use Rattle.row.proofs.RowLaws.{texts-append}
 use Rattle.row.proofs.SetLaws.{flat-append}
 use Rattle.row.proofs.Laws.{counted-small, append-encode}
 use Rattle.resolve.specs.Resolve.{faultIn}
-use Rattle.formed.specs.WellFormed.{Good, wellFormed}
+use Rattle.formed.specs.WellFormed.{wellFormed}
 use Rattle.resolve.specs.declared.Resolution.{Resolution}
 use Rattle.resolve.specs.declared.Resolution.the-variants.{Resolved, Faulty}
 use Rattle.resolve.proofs.MemoryLaws.{length-rows}
-use Rattle.formed.proofs.Laws.{good-within, more-good}
-use Rattle.set.specs.Lists.{Result, becomes, refuses, append, onResolved}
+use Rattle.formed.proofs.Laws.{more-within}
+use Rattle.set.specs.Lists.{Result, becomes, refuses, onResolved}
 use Rattle.set.specs.Calls.{answerOf, memoryOf}
-use Rattle.set.specs.Steps.{countedMore, pushedMore, Drafted, IsDraft, Ended}
+use Rattle.set.specs.Steps.{countedMore, pushedMore, joined, Drafted, IsDraft, Ended}
 use Rattle.set.proofs.Places.{is-encoded, is-good, is-long, is-count, is-counts, is-rows}
 
 -- ---- what a call answers, and leaves in memory
@@ -48,6 +49,18 @@ ended-done m ds e p q = record { answer = ap ofCounts p ∙ sym (ap answerOf e);
 pub ended-as : {m m′ : List ℕ} {r : Answer} {x y : Result} → x ≡ y → Ended m m′ r y → Ended m m′ r x
 ended-as e d = record { answer = d .answer ∙ ap answerOf (sym e); memory = d .memory ∙ ap (memoryOf _) (sym e) }
 
+-- ---- what an answer tells
+
+pub told-no : (x : Result) {a : Answer} {r : Refusal} → numbersOf a ≡ answerOf x → a ≡ Refused r → x ≡ refuses r
+unfolding answerOf
+told-no (becomes d) {r = r} p q = absurd (never-both r _ _ _ (sym (ap numbersOf q) ∙ p))
+told-no (refuses s) {r = r} p q = ap refuses (refusal-one s r (sym p ∙ ap numbersOf q))
+
+pub told-done : (x : Result) {a : Answer} {c : Counts} → numbersOf a ≡ answerOf x → a ≡ Done c → (d : List (List Row)) × (x ≡ becomes d) × (c ≡ setCounts d)
+unfolding answerOf
+told-done (becomes d) {c = c} p q = (d, refl, counts-one c (setCounts d) (sym (ap numbersOf q) ∙ p))
+told-done (refuses s) p q = absurd (never-both s _ _ _ (sym p ∙ ap numbersOf q))
+
 -- ---- rows written
 
 -- the function's own form: n rows of memory
@@ -58,11 +71,11 @@ unfolding countedMore pushedMore
 pushes m f c start n p q e g = (rw p at g, rw (e, q, length-rows f n start))
 
 module _ (ds : List (List Row)) (d : List Row) (w : Within (ds ++ (d ∷ []))) where
-  flat-more : flat (ds ++ (d ∷ [])) ≡ flat ds ++ d
+  pub flat-more : flat (ds ++ (d ∷ [])) ≡ flat ds ++ d
   unfolding flat
   flat-more = flat-append ds (d ∷ []) ∙ ap (λ (x : List Row). flat ds ++ x) (append-nil d)
 
-  rows-more : length (flat (ds ++ (d ∷ []))) ≡ length (flat ds) + length d
+  pub rows-more : length (flat (ds ++ (d ∷ []))) ≡ length (flat ds) + length d
   rows-more = ap length flat-more ∙ length-append (flat ds) d
 
   bytes-more : length (texts (flat (ds ++ (d ∷ [])))) ≡ length (texts (flat ds)) + length (texts d)
@@ -79,7 +92,7 @@ module _ (ds : List (List Row)) (d : List Row) (w : Within (ds ++ (d ∷ []))) w
       = counted-small d (length ds) (length (flat ds)) (length (texts (flat ds))) (omega (arith, rows-more, w .rows)) (omega (arith, bytes-more, w .strings)) in
       rw (c, rows-more, bytes-more, length-append ds (d ∷ []))
 
--- ---- the tests of append, in order: m is the set, c its counts, and n and bytes stand for rows in `from`
+-- ---- the tests of join, in order: m is the set, c its counts, and n and bytes stand for rows in `from`
 
 module _ (m : List ℕ) (w : wellFormed m ≡ true) (c : Counts) (e : c ≡ countsIn m) where
   counts-is : c ≡ setCounts (decode m)
@@ -89,7 +102,7 @@ module _ (m : List ℕ) (w : wellFormed m ≡ true) (c : Counts) (e : c ≡ coun
   unfolding setCounts
   places-are = ap (λ (x : Counts). x .declarations) counts-is
 
-  rows-are : c .rows ≡ length (flat (decode m))
+  pub rows-are : c .rows ≡ length (flat (decode m))
   unfolding setCounts
   rows-are = ap (λ (x : Counts). x .rows) counts-is
 
@@ -104,10 +117,10 @@ module _ (m : List ℕ) (w : wellFormed m ≡ true) (c : Counts) (e : c ≡ coun
   bytes-most = omega (arith, bytes-are, is-good m w .strings)
 
   module _ («from» : List ℕ) (start n bytes : ℕ) where
-    pub append-rows : rowLimit - c .rows < n → (rows : List Row) → Drafted «from» start n bytes rows → {r : Answer}
-        → r ≡ Refused (record { why = TooManyRows; place = c .declarations; at = 0 }) → Ended m m r (append (decode m) rows)
-    unfolding append
-    append-rows h rows d g =
+    pub join-rows : rowLimit - c .rows < n → (rows : List Row) → Drafted «from» start n bytes rows → {r : Answer}
+        → r ≡ Refused (record { why = TooManyRows; place = c .declarations; at = 0 }) → Ended m m r (joined (decode m) rows)
+    unfolding joined
+    join-rows h rows d g =
         let k : rowLimit < length (flat (decode m)) + length rows = omega (arith, rows-are, d .counted, rows-most) in
         rw g (ended-no m _ (rw (lt-ltb rowLimit (length (flat (decode m)) + length rows) k, places-are)))
 
@@ -115,10 +128,10 @@ module _ (m : List ℕ) (w : wellFormed m ≡ true) (c : Counts) (e : c ≡ coun
       rows-pass : (rows : List Row) → Drafted «from» start n bytes rows → ltb rowLimit (length (flat (decode m)) + length rows) ≡ false
       rows-pass rows d = le-ltb rowLimit (length (flat (decode m)) + length rows) (omega (arith, rows-are, rows-most, d .counted))
 
-      pub append-strings : stringLimit - c .«string_bytes» < bytes → (rows : List Row) → Drafted «from» start n bytes rows → {r : Answer}
-          → r ≡ Refused (record { why = TooManyStringBytes; place = c .declarations; at = 0 }) → Ended m m r (append (decode m) rows)
-      unfolding append
-      append-strings h rows d g =
+      pub join-strings : stringLimit - c .«string_bytes» < bytes → (rows : List Row) → Drafted «from» start n bytes rows → {r : Answer}
+          → r ≡ Refused (record { why = TooManyStringBytes; place = c .declarations; at = 0 }) → Ended m m r (joined (decode m) rows)
+      unfolding joined
+      join-strings h rows d g =
           let k : stringLimit < length (texts (flat (decode m))) + length (texts rows) = omega (arith, bytes-are, d .strings, bytes-most) in
           rw g (ended-no m _ (rw (rows-pass rows d, lt-ltb stringLimit (length (texts (flat (decode m))) + length (texts rows)) k, places-are)))
 
@@ -130,8 +143,8 @@ module _ (m : List ℕ) (w : wellFormed m ≡ true) (c : Counts) (e : c ≡ coun
         lies rows d = d .fits (omega (arith, rows-most)) (omega (arith, bytes-most))
 
         -- what first_fault and push ask
-        pub append-asks : IsDraft «from» start n bytes → (length m ≡ layoutLength) × (c .rows ≤ rowLimit) × (length «from» ≡ layoutLength) × (start + n ≤ rowLimit)
-        append-asks d = (is-long m w, rows-most, d .drafted .long, lies (d .rows) (d .drafted) .0)
+        pub join-asks : IsDraft «from» start n bytes → (length m ≡ layoutLength) × (c .rows ≤ rowLimit) × (length «from» ≡ layoutLength) × (start + n ≤ rowLimit)
+        join-asks d = (is-long m w, rows-most, d .drafted .long, lies (d .rows) (d .drafted) .0)
 
         pub push-asks : IsDraft «from» start n bytes → countIn m < declarationLimit → (c .declarations < declarationLimit) × (length «from» ≡ layoutLength) × (start + n ≤ rowLimit)
         push-asks d room = (omega (arith, places-are, is-count m w), d .drafted .long, lies (d .rows) (d .drafted) .0)
@@ -140,23 +153,23 @@ module _ (m : List ℕ) (w : wellFormed m ≡ true) (c : Counts) (e : c ≡ coun
           faults : (rows : List Row) → Drafted «from» start n bytes rows → f ≡ faultIn (flat (decode m)) rows
           faults rows d = found ∙ ap₂ faultIn (ap (λ (x : ℕ). rowsFrom m x 0) rows-are ∙ is-rows m w) (lies rows d .1)
 
-          tested : (rows : List Row) → Drafted «from» start n bytes rows → append (decode m) rows ≡ onResolved f (length (decode m)) (becomes (decode m ++ (rows ∷ [])))
-          unfolding append
+          tested : (rows : List Row) → Drafted «from» start n bytes rows → joined (decode m) rows ≡ onResolved f (length (decode m)) (becomes (decode m ++ (rows ∷ [])))
+          unfolding joined
           tested rows d = rw (rows-pass rows d, strings-pass rows d, ← faults rows d)
 
-          pub append-fault : {x : Fault} → f ≡ Faulty x → (rows : List Row) → Drafted «from» start n bytes rows → {r : Refusal} → r ≡ placed x (c .declarations)
-              → Ended m m (Refused r) (append (decode m) rows)
-          append-fault b rows d g = rw g (ended-no m _ (tested rows d ∙ rw (b, places-are)))
+          pub join-fault : {x : Fault} → f ≡ Faulty x → (rows : List Row) → Drafted «from» start n bytes rows → {r : Refusal} → r ≡ placed x (c .declarations)
+              → Ended m m (Refused r) (joined (decode m) rows)
+          join-fault b rows d g = rw g (ended-no m _ (tested rows d ∙ rw (b, places-are)))
 
           module _ (room : countIn m < declarationLimit) (b : f ≡ Resolved) where
-            more-is : (rows : List Row) → Drafted «from» start n bytes rows → Good (decode m ++ (rows ∷ []))
+            more-is : (rows : List Row) → Drafted «from» start n bytes rows → Within (decode m ++ (rows ∷ []))
             more-is rows d =
-                more-good (decode m) rows (is-good m w) (omega (arith, is-count m w)) (omega (arith, rows-are, rows-most, d .counted)) (omega (arith, bytes-are, bytes-most, d .strings)) (d .kept) (sym (faults rows d) ∙ b)
+                more-within (decode m) rows (is-good m w) (omega (arith, is-count m w)) (omega (arith, rows-are, rows-most, d .counted)) (omega (arith, bytes-are, bytes-most, d .strings)) (d .kept)
 
-            pub append-done : {s : Counts} {m′ : List ℕ} → s ≡ countedMore c (rowsFrom «from» n start) → m′ ≡ pushedMore m c (rowsFrom «from» n start)
-                → (rows : List Row) → Drafted «from» start n bytes rows → Ended m m′ (Done s) (append (decode m) rows)
-            append-done p q rows d =
-                let g : Within (decode m ++ (rows ∷ [])) = good-within (decode m ++ (rows ∷ [])) (more-is rows d) in
+            pub join-done : {s : Counts} {m′ : List ℕ} → s ≡ countedMore c (rowsFrom «from» n start) → m′ ≡ pushedMore m c (rowsFrom «from» n start)
+                → (rows : List Row) → Drafted «from» start n bytes rows → Ended m m′ (Done s) (joined (decode m) rows)
+            join-done p q rows d =
+                let g : Within (decode m ++ (rows ∷ [])) = more-is rows d in
                 let l : rowsFrom «from» n start ≡ rows = lies rows d .1 in
                 ended-done m (decode m ++ (rows ∷ [])) (tested rows d ∙ rw b)
                 (p ∙ ap₂ countedMore counts-is l ∙ counted-encode (decode m) rows g)

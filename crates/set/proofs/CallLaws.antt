@@ -5,7 +5,7 @@ use mathlib.Core.Bool.{true, false}
 use mathlib.Core.List.{List, [], _∷_, _++_, append-nil}
 use Prim.Native.Nat.{ℕ, _+_, _<_, _≤_}
 use native.Mathlib.Omega.{arith}
-use lib.ListN.{length, take, drop, length-take, drop-of-length-le}
+use lib.ListN.{length, take, drop, length-take, length-replicate, drop-of-length-le}
 use borrow.Author.Tests.{lt-ltb, le-ltb, eq-eqb, ne-eqb}
 use Rattle.answer.specs.declared.Answer.{Answer}
 use Rattle.answer.specs.declared.Answer.the-variants.{Done, Refused}
@@ -33,8 +33,8 @@ use Rattle.set.specs.Lists.{Result, refuses, refuse, next, onRows, appen
 use Rattle.set.specs.Calls.{answerOf, memoryOf, onSet, opened, put}
 use Rattle.set.specs.Steps.{Drafted, IsDraft, Wrote, Ended}
 use Rattle.set.proofs.Places.{is-good, is-long, is-count}
-use Rattle.set.proofs.Appends.{ended-no, ended-done, ended-as}
-use Rattle.set.proofs.Rests.{told-no, told-done, Stepped, stepped}
+use Rattle.set.proofs.Appends.{ended-no, ended-done, ended-as, told-no, told-done}
+use Rattle.set.proofs.Accepts.{Stepped, stepped}
 use Rattle.set.proofs.Drafts.{read-not, read-rows, is-draft}
 use Rattle.set.proofs.Ends.{append-last}
 
@@ -75,6 +75,31 @@ stored m o e =
     let l : length m ≤ 0 + length o = omega arith in
     store-fits m 0 o k ∙ ap (λ (x : List ℕ). o ++ x) (drop-of-length-le m l) ∙ append-nil o
 
+-- what became of scratch memory, for which the answer is a, becomes of memory
+module _ (m out : List ℕ) {a : Answer} where
+  pub settle-no : (r : Refusal) → a ≡ Refused r → (x : Result) → Ended out out a x → Ended m m (Refused r) x
+  settle-no r g x d = ended-no m r (told-no x (d .answer) g)
+
+  pub settle-done : (c : Counts) → a ≡ Done c → length m ≡ length out → {m′ : List ℕ} → m′ ≡ store m 0 out → (x : Result) → Ended out out a x → Ended m m′ (Done c) x
+  unfolding memoryOf
+  settle-done c g e p x d =
+      let t = told-done x (d .answer) g in
+      ended-done m (t .0) (t .1) (t .2) (p ∙ stored m out e ∙ d .memory ∙ ap (memoryOf out) (t .1))
+
+-- out is a copy of m
+module _ (m : List ℕ) (w : wellFormed m ≡ true) (z : List ℕ) (empty : z ≡ zeros layoutLength) {out : List ℕ} (b : out ≡ store z 0 m) where
+  copy-is : out ≡ m
+  copy-is = b ∙ stored z m (ap length empty ∙ length-replicate {A = ℕ} layoutLength 0 ∙ sym (is-long m w))
+
+  pub copied-asks : countIn m < declarationLimit → (wellFormed out ≡ true) × (countIn out < declarationLimit)
+  copied-asks l = (ap wellFormed copy-is ∙ w, omega (arith, ap countIn copy-is))
+
+  -- rows were appended to it
+  pub copied-settled : (out₁ : List ℕ) {draft : List ℕ} {n bytes : ℕ} {a r : Answer} {m′ : List ℕ} → ((rows : List Row) → Drafted draft 0 n bytes rows → Ended out₁ out₁ a (append (decode out) rows))
+      → ((x : Result) → Ended out₁ out₁ a x → Ended m m′ r x)
+      → (rows : List Row) → Drafted draft 0 n bytes rows → Ended m m′ r (append (decode m) rows)
+  copied-settled out₁ did settles rows d = ended-as (ap (λ (x : List ℕ). append (decode x) rows) (sym copy-is)) (settles _ (did rows d))
+
 -- out holds the declarations of m before the place
 module _ (m : List ℕ) (w : wellFormed m ≡ true) (place : ℕ) (l : place < countIn m) (out : List ℕ) (b : out ≡ encode (take place (decode m))) where
   before-good : Good (take place (decode m))
@@ -97,7 +122,7 @@ module _ (m : List ℕ) (w : wellFormed m ≡ true) (place : ℕ) (l : place < c
     pub draft-asks : IsDraft draft 0 n bytes → (wellFormed out ≡ true) × (countIn out < declarationLimit) × IsDraft draft 0 n bytes
     draft-asks d = (before-well, before-few, d)
 
-    module _ (a : Answer) (out₁ : List ℕ) (did : (rows : List Row) → Drafted draft 0 n bytes rows → Ended out out₁ a (append (decode out) rows)) where
+    module _ (a : Answer) (out₁ : List ℕ) (did : (rows : List Row) → Drafted draft 0 n bytes rows → Ended out₁ out₁ a (append (decode out) rows)) where
       opens : (rows : List Row) → appendAll (take place (decode m)) (rows ∷ drop (place + 1) (decode m)) ≡ next (append (decode out) rows) (λ longer. appendAll longer (drop (place + 1) (decode m)))
       unfolding appendAll
       opens rows = rw before-decode
@@ -118,17 +143,10 @@ module _ (m : List ℕ) (w : wellFormed m ≡ true) (place : ℕ) (l : place < c
         behind : (rows : List Row) → Drafted draft 0 n bytes rows → appendAll (take place (decode m)) (rows ∷ drop (place + 1) (decode m)) ≡ appendAll (decode out₁) (drop (place + 1) (decode m))
         behind rows d = opens rows ∙ rw (step rows d .ok)
 
-        module _ (y : Answer) (out₂ : List ℕ) (rest : Ended out₂ out₂ y (appendAll (decode out₁) (drop (place + 1) (decode m)))) where
-          pub inside-later : (r : Refusal) → y ≡ Refused r → (rows : List Row) → Drafted draft 0 n bytes rows
-              → Ended m m (Refused r) (appendAll (take place (decode m)) (rows ∷ drop (place + 1) (decode m)))
-          inside-later r h rows d = ended-no m r (behind rows d ∙ told-no (appendAll (decode out₁) (drop (place + 1) (decode m))) (rest .answer) h)
-
-          pub inside-done : (k : Counts) → y ≡ Done k → length out₂ ≡ layoutLength → (m′ : List ℕ) → m′ ≡ store m 0 out₂ → (rows : List Row) → Drafted draft 0 n bytes rows
-              → Ended m m′ (Done k) (appendAll (take place (decode m)) (rows ∷ drop (place + 1) (decode m)))
-          unfolding memoryOf
-          inside-done k h long m′ p rows d =
-              let t = told-done (appendAll (decode out₁) (drop (place + 1) (decode m))) (rest .answer) h in
-              ended-done m (t .0) (behind rows d ∙ t .1) (t .2) (p ∙ stored m out₂ (is-long m w ∙ sym long) ∙ rest .memory ∙ ap (memoryOf out₂) (t .1))
+        pub inside-settled : (out₂ : List ℕ) {y r : Answer} {m′ : List ℕ} → Ended out₂ out₂ y (appendAll (decode out₁) (drop (place + 1) (decode m)))
+            → ((x : Result) → Ended out₂ out₂ y x → Ended m m′ r x)
+            → (rows : List Row) → Drafted draft 0 n bytes rows → Ended m m′ r (appendAll (take place (decode m)) (rows ∷ drop (place + 1) (decode m)))
+        inside-settled out₂ rest settles rows d = ended-as (behind rows d) (settles _ rest)
 
 -- ---- put
 

@@ -1,19 +1,15 @@
 -- A draft that the walk wrote stands for the rows of the text.
 -- Assumes nothing.
 use mathlib.Core.Path.{_≡_, refl, sym, ap, ap₂, subst, _∙_}
-use mathlib.Core.Bool.{Bool, true, false, cond}
+use mathlib.Core.Bool.{true}
 use mathlib.Core.List.{List}
 use Prim.Native.Nat.{ℕ, _+_, _≤_, min}
 use native.Mathlib.Omega.{arith}
-use lib.Dec.{ltb}
 use lib.ListN.{length, length-replicate}
-use borrow.Author.Tests.{ltb-false}
 use Rattle.answer.specs.declared.counts.Counts.{Counts}
 use Rattle.answer.specs.declared.refusal.Fault.{Fault}
-use Rattle.answer.specs.declared.refusal.Why.the-variants.{TextTooLong}
 use Rattle.answer.specs.Limits.{countsOf, noCounts}
-use Rattle.json.specs.Json.{longest, verdict, scanned}
-use Rattle.json.specs.Json as json
+use Rattle.json.specs.Json.{scanned}
 use Rattle.json.specs.declared.verdict.Scan.{Scan}
 use Rattle.json.specs.declared.verdict.Scan.the-variants.{Whole}
 use Rattle.json.specs.declared.verdict.Scan.the-variants as scan
@@ -34,21 +30,13 @@ use Rattle.resolve.proofs.Laws.{declaration-fits}
 
 -- ---- a text that is read
 
-scan-short : (t : List ℕ) → scanned t ≡ Whole → length t ≤ longest
-unfolding scanned
-scan-short t e = go (ltb longest (length t)) refl e
-  where
-    go : (b : Bool) → ltb longest (length t) ≡ b → cond b (json.fault TextTooLong longest) (verdict t) ≡ Whole → length t ≤ longest
-    go true f h = let o : _≡_ {A = ℕ} 0 1 = cc in absurd (omega arith)
-    go false f h = ltb-false longest (length t) f
-
 -- its rows keep the rules
 declared-kept : (t : List ℕ) (rows : List Row) → declared t ≡ read rows → isDeclaration rows ≡ true
 unfolding declared
 declared-kept t rows e = go (scanned t) refl e
   where
     go : (s : Scan) → scanned t ≡ s → onScan s (rowsOf t) ≡ read rows → isDeclaration rows ≡ true
-    go Whole p q = kept t rows (scan-short t p) q
+    go Whole p q = kept t rows p q
     go (scan.Bad f) p q = let o : _≡_ {A = ℕ} 0 1 = cc in absurd (omega arith)
 
 -- ---- an empty draft of the layout's length that a walk left as d

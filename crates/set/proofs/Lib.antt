@@ -2,6 +2,7 @@
 pub mod Laws
 mod Places
 mod Appends
+mod Accepts
 mod Drafts
 mod Ends
 mod Rests

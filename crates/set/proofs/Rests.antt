@@ -1,37 +1,28 @@
 -- The declarations before a place, copied, and those behind it, appended in turn.
 -- Assumes nothing.
 use mathlib.Core.Path.{_≡_, refl, sym, ap, ap₂, _∙_}
-use mathlib.Core.Bool.{Bool, true, false, cond}
+use mathlib.Core.Bool.{true}
 use mathlib.Core.List.{List, [], _∷_, _++_}
 use Prim.Native.Nat.{ℕ, _+_, _-_, _<_, _≤_}
 use native.Mathlib.Omega.{arith}
-use lib.Dec.{ltb}
-use lib.ListN.{length, take, drop, length-append, length-take, length-replicate, drop-of-length-le}
-use borrow.Author.Tests.{ltb-false}
+use lib.ListN.{length, take, drop, length-take, length-replicate, drop-of-length-le}
 use Rattle.answer.specs.declared.Answer.{Answer}
 use Rattle.answer.specs.declared.Answer.the-variants.{Done, Refused}
-use Rattle.answer.specs.Answers.{numbersOf}
-use Rattle.answer.proofs.Laws.{refusal-one, counts-one, never-both}
 use Rattle.answer.specs.declared.counts.Counts.{Counts}
-use Rattle.answer.specs.declared.refusal.Why.the-variants.{TooManyRows, TooManyStringBytes}
 use Rattle.answer.specs.declared.refusal.Refusal.{Refusal}
 use Rattle.answer.specs.Limits.{noCounts}
-use Rattle.row.specs.Layout.{declarationLimit, rowLimit, stringLimit, layoutLength}
+use Rattle.row.specs.Layout.{declarationLimit, rowLimit, layoutLength}
 use Rattle.row.specs.Rows.{Row, texts}
 use Rattle.row.specs.Sets.{flat, zeros, encode, decode, countIn, rowsFrom, Within}
 use Rattle.row.specs.Memory.{sizeAt, rowsBefore, stringsBefore, countsIn, setCounts}
-use Rattle.row.proofs.Laws.{encode-none, decode-encode, count-encode, length-encode}
-use Rattle.resolve.specs.Rules.{isDeclaration}
-use Rattle.resolve.specs.Resolve.{faultIn}
-use Rattle.formed.specs.WellFormed.{Good, wellFormed}
-use Rattle.resolve.specs.declared.Resolution.{Resolution}
-use Rattle.resolve.specs.declared.Resolution.the-variants.{Resolved, Faulty}
-use Rattle.formed.proofs.Laws.{good-within, encode-good, cut-good, more-good}
-use Rattle.set.specs.Lists.{Result, becomes, refuses, refuse, next, append, appendAll, onResolved}
-use Rattle.set.specs.Calls.{answerOf, memoryOf}
+use Rattle.row.proofs.Laws.{encode-none, length-encode}
+use Rattle.formed.specs.WellFormed.{wellFormed}
+use Rattle.formed.proofs.Laws.{good-within, cut-good}
+use Rattle.set.specs.Lists.{Result, next, append, appendAll}
 use Rattle.set.specs.Steps.{countedMore, pushedMore, Drafted, IsDraft, Ended}
 use Rattle.set.proofs.Places.{Place, is-encoded, is-good, is-long, is-count, is-counts, is-before, place-of}
-use Rattle.set.proofs.Appends.{push-encode, counted-encode, ended-no, ended-done}
+use Rattle.set.proofs.Appends.{push-encode, counted-encode, ended-no, ended-done, told-no}
+use Rattle.set.proofs.Accepts.{Stepped, stepped}
 
 -- ---- the declarations before a place: out holds the first i of m, and c counts them
 
@@ -88,67 +79,6 @@ copied-long m w i out₀ out e z =
 pub copied-all : (m : List ℕ) (place i : ℕ) → i ≤ place → place ≤ i → (out : List ℕ) (c : Counts) → Copied m i out c → out ≡ encode (take place (decode m))
 copied-all m place i l h out c z = let e : i ≡ place = omega arith in z .bytes ∙ ap (λ (k : ℕ). encode (take k (decode m))) e
 
--- ---- what an answer tells
-
-pub told-no : (x : Result) {a : Answer} {r : Refusal} → numbersOf a ≡ answerOf x → a ≡ Refused r → x ≡ refuses r
-unfolding answerOf
-told-no (becomes d) {r = r} p q = absurd (never-both r _ _ _ (sym (ap numbersOf q) ∙ p))
-told-no (refuses s) {r = r} p q = ap refuses (refusal-one s r (sym p ∙ ap numbersOf q))
-
-pub told-done : (x : Result) {a : Answer} {c : Counts} → numbersOf a ≡ answerOf x → a ≡ Done c → (d : List (List Row)) × (x ≡ becomes d) × (c ≡ setCounts d)
-unfolding answerOf
-told-done (becomes d) {c = c} p q = (d, refl, counts-one c (setCounts d) (sym (ap numbersOf q) ∙ p))
-told-done (refuses s) p q = absurd (never-both s _ _ _ (sym p ∙ ap numbersOf q))
-
--- ---- a declaration that was accepted
-
-record Accepted (ds : List (List Row)) (rows : List Row) (d : List (List Row)) : Type 0 where
-  fit : length (flat ds) + length rows ≤ rowLimit
-  room : length (texts (flat ds)) + length (texts rows) ≤ stringLimit
-  resolved : faultIn (flat ds) rows ≡ Resolved
-  is : d ≡ ds ++ (rows ∷ [])
-
-accepted : (ds : List (List Row)) (rows : List Row) (d : List (List Row)) → append ds rows ≡ becomes d → Accepted ds rows d
-unfolding append
-accepted ds rows d e = go (ltb rowLimit k) (ltb stringLimit t) (faultIn (flat ds) rows) refl refl refl e
-  where
-    k : ℕ
-    k = length (flat ds) + length rows
-
-    t : ℕ
-    t = length (texts (flat ds)) + length (texts rows)
-
-    go : (a b : Bool) (f : Resolution) → ltb rowLimit k ≡ a → ltb stringLimit t ≡ b → faultIn (flat ds) rows ≡ f
-        → cond a (refuse TooManyRows (length ds) 0) (cond b (refuse TooManyStringBytes (length ds) 0) (onResolved f (length ds) (becomes (ds ++ (rows ∷ []))))) ≡ becomes d → Accepted ds rows d
-    go true b f p q r x = let z : _≡_ {A = ℕ} 0 1 = cc in absurd (omega arith)
-    go false true f p q r x = let z : _≡_ {A = ℕ} 0 1 = cc in absurd (omega arith)
-    go false false (Faulty y) p q r x = let z : _≡_ {A = ℕ} 0 1 = cc in absurd (omega arith)
-    go false false Resolved p q r x = record { fit = ltb-false rowLimit k p; room = ltb-false stringLimit t q; resolved = r; is = cc }
-
--- memory behind it
-pub record Stepped (o : List ℕ) (rows : List Row) (o′ : List ℕ) : Type 0 where
-  pub ok : append (decode o) rows ≡ becomes (decode o′)
-  pub well : wellFormed o′ ≡ true
-  pub more : countIn o′ ≡ countIn o + 1
-
-pub stepped : {o o′ : List ℕ} {rows : List Row} {a : Answer} {c : Counts} → wellFormed o ≡ true → countIn o < declarationLimit → isDeclaration rows ≡ true
-    → Ended o o′ a (append (decode o) rows) → a ≡ Done c → Stepped o rows o′
-unfolding memoryOf
-stepped {o} {o′} {rows} {a} {c} w l g e f =
-    let t = told-done (append (decode o) rows) (e .answer) f in
-    let d : List (List Row) = t .0 in
-    let x : append (decode o) rows ≡ becomes d = t .1 in
-    let y : Accepted (decode o) rows d = accepted (decode o) rows d x in
-    let b : o′ ≡ encode d = e .memory ∙ ap (memoryOf o) x in
-    let n : countIn o ≡ length (decode o) = is-count o w in
-    let h : Good d = rw (y .is) (more-good (decode o) rows (is-good o w) (omega arith) (y .fit) (y .room) g (y .resolved)) in
-    let k : decode o′ ≡ d = ap decode b ∙ decode-encode d (good-within d h) in
-    record {
-      ok = x ∙ ap becomes (sym k);
-      well = ap wellFormed b ∙ encode-good d h;
-      more = ap countIn b ∙ count-encode d (good-within d h) ∙ ap length (y .is) ∙ length-append (decode o) (rows ∷ []) ∙ ap (λ (i : ℕ). i + 1) (sym n);
-    }
-
 -- ---- the declarations from a place on: x is what becomes of all, out holds i of them, and start is the next one's first row
 
 pub record Left (x : Result) (m out : List ℕ) (start i : ℕ) : Type 0 where
@@ -195,8 +125,8 @@ module _ (m : List ℕ) (w : wellFormed m ≡ true) (i : ℕ) (l : i < countIn m
     pub rest-asks : (wellFormed out ≡ true) × (countIn out < declarationLimit) × IsDraft m start n (b - a)
     rest-asks = (z .well, omega (arith, z .count, place-few m w i l), record { rows = here m w i l .rows; drafted = drafted })
 
-    module _ (out′ : List ℕ) (r : Answer) (did : (rows : List Row) → Drafted m start n (b - a) rows → Ended out out′ r (append (decode out) rows)) where
-      was : Ended out out′ r (append (decode out) (here m w i l .rows))
+    module _ (out′ : List ℕ) (r : Answer) (did : (rows : List Row) → Drafted m start n (b - a) rows → Ended out′ out′ r (append (decode out) rows)) where
+      was : Ended out′ out′ r (append (decode out) (here m w i l .rows))
       was = did (here m w i l .rows) drafted
 
       turns : x ≡ next (append (decode out) (here m w i l .rows)) (λ longer. appendAll longer (drop (i + 1) (decode m)))

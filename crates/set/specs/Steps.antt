@@ -3,22 +3,25 @@
 use Prim.Native.Nat.{ℕ, _+_, _≤_, min}
 use mathlib.Core.Path.{_≡_}
 use mathlib.Core.Bool.{true, cond}
-use mathlib.Core.List.{List, []}
+use mathlib.Core.List.{List, [], _∷_, _++_}
+use lib.Dec.{ltb}
 use lib.ListN.{length}
 use Rattle.answer.specs.declared.Answer.{Answer}
 use Rattle.answer.specs.declared.counts.Counts.{Counts}
 use Rattle.answer.specs.declared.refusal.Why.{Why}
+use Rattle.answer.specs.declared.refusal.Why.the-variants.{TooManyRows, TooManyStringBytes}
 use Rattle.answer.specs.Limits.{countsOf}
 use Rattle.answer.specs.Answers.{numbersOf}
 use Rattle.row.specs.Layout.{rowLimit, stringLimit, layoutLength}
 use Rattle.row.specs.Rows.{Row, texts}
-use Rattle.row.specs.Sets.{rowsFrom}
+use Rattle.row.specs.Sets.{flat, rowsFrom}
 use Rattle.row.specs.Memory.{entryAt, textAt, textPlace, most, countedAll, pushedAll, declared}
 use Rattle.resolve.specs.Rules.{isDeclaration}
+use Rattle.resolve.specs.Resolve.{faultIn}
 use Rattle.schema.specs.Out.{Out, refused, read}
 use Rattle.schema.specs.declared.walked.Walked.{Walked}
 use Rattle.schema.specs.declared.walked.Walked.the-variants.{Read, Bad}
-use Rattle.set.specs.Lists.{Result}
+use Rattle.set.specs.Lists.{Result, becomes, refuse, onResolved}
 use Rattle.set.specs.Calls.{answerOf, memoryOf}
 use Rattle.set.specs.Naming.{hasFullName}
 use Rattle.set.specs.declared.naming.Naming.{Naming}
@@ -41,6 +44,14 @@ countedMore c rows = countsOf (c .declarations + 1) (countedAll c rows .rows) (c
 
 unfoldable pub pushedMore : List ℕ → Counts → List Row → List ℕ
 pushedMore m c rows = declared (pushedAll m c rows) (c .declarations) (length rows)
+
+-- one declaration more, but for 47: what `append` does before it looks at the defaults
+unfoldable pub joined : List (List Row) → List Row → Result
+joined ds rows =
+    cond (ltb rowLimit (length (flat ds) + length rows)) (refuse TooManyRows (length ds) 0)
+    (cond (ltb stringLimit (length (texts (flat ds)) + length (texts rows))) (refuse TooManyStringBytes (length ds) 0)
+    (onResolved (faultIn (flat ds) rows) (length ds)
+    (becomes (ds ++ (rows ∷ [])))))
 
 -- the numbers n and bytes, and where these are within the limits the memory from row `start` on, stand for the rows of a declaration
 pub record Drafted («from» : List ℕ) (start n bytes : ℕ) (rows : List Row) : Type 0 where

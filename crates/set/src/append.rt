@@ -3,6 +3,7 @@ use answer::Answer;
 use answer::Counts;
 use answer::Refusal;
 use answer::Why;
+use fits::first_misfit;
 use resolve::Resolution;
 use resolve::first_fault;
 use row::read::counts;
@@ -19,7 +20,7 @@ ghost use Rattle.row.specs.Rows.{Row};
 ghost use Rattle.row.specs.Sets.{countIn, rowsFrom, decode};
 ghost use Rattle.formed.specs.WellFormed.{wellFormed};
 ghost use Rattle.set.specs.Lists.{append};
-ghost use Rattle.set.specs.Steps.{countedMore, pushedMore, Drafted, IsDraft, Ended};
+ghost use Rattle.set.specs.Steps.{countedMore, pushedMore, joined, Drafted, IsDraft, Ended};
 
 // A refusal that has no byte position.
 pub(crate) fn refused(why: Why, place: usize) -> Answer
@@ -44,11 +45,11 @@ pub(crate) fn push(mem: &mut [u8], counts: Counts, from: &[u8], start: usize, n:
     Counts::new(place + 1, sum.rows, sum.string_bytes)
 }
 
-// One declaration more, for whose rows n, `bytes` and the memory `from` stand; or 23 to 26, and all is as it was.
-pub(crate) fn append(mem: &mut [u8], from: &[u8], start: usize, n: usize, bytes: usize) -> Answer
+// One declaration more, for whose rows n, `bytes` and the memory `from` stand, but for 47; or 23 to 26, and all is as it was.
+pub(crate) fn join(mem: &mut [u8], from: &[u8], start: usize, n: usize, bytes: usize) -> Answer
     requires { ⌜ (wellFormed (now mem) ≡ true) × (countIn (now mem) < declarationLimit) × IsDraft (now «from») start n bytes ⌝ }
     ensures { λ r. ⌜ ((rows : List Row) → Drafted (now («from» .entry)) start n bytes rows
-        → Ended (now (mem .entry)) (now (mem .exit)) r (append (decode (now (mem .entry))) rows)) ⌝ }
+        → Ended (now (mem .entry)) (now (mem .exit)) r (joined (decode (now (mem .entry))) rows)) ⌝ }
 {
     let sum = counts(mem);
     let place = sum.declarations;
@@ -62,5 +63,25 @@ pub(crate) fn append(mem: &mut [u8], from: &[u8], start: usize, n: usize, bytes:
     match names {
         Resolution::Faulty(f) => Answer::Refused(f.placed(place)),
         Resolution::Resolved => Answer::Done(push(mem, sum, from, start, n)),
+    }
+}
+
+// The same with 47, in memory that holds anything where it is refused.
+pub(crate) fn append(out: &mut [u8], from: &[u8], start: usize, n: usize, bytes: usize) -> Answer
+    requires { ⌜ (wellFormed (now out) ≡ true) × (countIn (now out) < declarationLimit) × IsDraft (now «from») start n bytes ⌝ }
+    ensures { λ r. ⌜ ((rows : List Row) → Drafted (now («from» .entry)) start n bytes rows
+        → Ended (now (out .exit)) (now (out .exit)) r (append (decode (now (out .entry))) rows)) ⌝ }
+{
+    let sum = counts(out);
+    let a = join(out, from, start, n, bytes);
+    match a {
+        Answer::Refused(r) => Answer::Refused(r),
+        Answer::Done(c) => {
+            let defaults = first_misfit(out, sum.rows, n);
+            match defaults {
+                Resolution::Faulty(f) => Answer::Refused(f.placed(sum.declarations)),
+                Resolution::Resolved => Answer::Done(c),
+            }
+        }
     }
 }

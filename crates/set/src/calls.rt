@@ -1,10 +1,12 @@
 // The calls that change a set.
 use crate::append::append;
+use crate::append::join;
 use crate::append::push;
 use crate::append::refused;
 use answer::Answer;
 use answer::Counts;
 use answer::Why;
+use fits::has_defaults;
 use formed::well_formed;
 use ground::copy;
 use row::Layout;
@@ -20,14 +22,16 @@ ghost use mathlib.Core.Path.{_≡_};
 ghost use mathlib.Core.Bool.{true};
 ghost use mathlib.Core.List.{List, _∷_};
 ghost use Prim.Native.Nat.{_+_, _≤_, _<_};
-ghost use lib.ListN.{take, drop};
+ghost use lib.ListN.{length, take, drop};
 ghost use Rattle.answer.specs.Answers.{numbersOf};
-ghost use Rattle.row.specs.Layout.{declarationLimit, layoutLength};
+ghost use Rattle.row.specs.Layout.{declarationLimit, rowLimit, layoutLength};
 ghost use Rattle.row.specs.Rows.{Row};
-ghost use Rattle.row.specs.Sets.{zeros, countIn, encode, decode};
+ghost use Rattle.row.specs.Sets.{zeros, countIn, rowsFrom, encode, decode};
+ghost use Rattle.resolve.specs.Rules.{some};
+ghost use Rattle.fits.specs.Types.{hasDefault};
 ghost use Rattle.schema.specs.Schema.{declared};
 ghost use Rattle.formed.specs.WellFormed.{wellFormed};
-ghost use Rattle.set.specs.Lists.{appendAll};
+ghost use Rattle.set.specs.Lists.{Result, append, appendAll};
 ghost use Rattle.set.specs.Calls.{answerOf, memoryOf, opened, put};
 ghost use Rattle.set.specs.Steps.{Drafted, IsDraft, Wrote, Ended};
 
@@ -88,6 +92,20 @@ fn append_from(out: &mut [u8], mem: &[u8], place: usize) -> Answer
     Answer::Done(counts(out))
 }
 
+// Memory becomes what the scratch memory holds, unless that was refused.
+fn settle(mem: &mut [u8], out: &[u8], a: Answer) -> Answer
+    requires { ⌜ length (now mem) ≡ length (now out) ⌝ }
+    ensures { λ r. ⌜ ((x : Result) → Ended (now (out .entry)) (now (out .entry)) a x → Ended (now (mem .entry)) (now (mem .exit)) r x) ⌝ }
+{
+    match a {
+        Answer::Refused(r) => Answer::Refused(r),
+        Answer::Done(c) => {
+            copy(mem, 0, out);
+            Answer::Done(c)
+        }
+    }
+}
+
 // The rows of a draft in place of a declaration: the declarations before it, the draft, those behind it.
 fn put_inside(mem: &mut [u8], place: usize, draft: &[u8], n: usize, bytes: usize) -> Answer
     requires { ⌜ (wellFormed (now mem) ≡ true) × (place < countIn (now mem)) × IsDraft (now draft) 0 n bytes ⌝ }
@@ -102,13 +120,33 @@ fn put_inside(mem: &mut [u8], place: usize, draft: &[u8], n: usize, bytes: usize
         Answer::Done(_) => {}
     }
     let b = append_from(&mut out, mem, place + 1);
-    match b {
-        Answer::Refused(r) => Answer::Refused(r),
-        Answer::Done(c) => {
-            copy(mem, 0, &out);
-            Answer::Done(c)
-        }
+    settle(mem, &out, b)
+}
+
+// Has one of the n rows of a draft a default? More rows than a set may have are not asked.
+fn asks_to_fit(draft: &[u8], n: usize) -> bool
+    requires { ⌜ length (now draft) ≡ layoutLength ⌝ }
+    ensures { λ r. ⌜ (n ≤ rowLimit → r ≡ some hasDefault (rowsFrom (now (draft .entry)) n 0)) ⌝ }
+{
+    if Counts::ROWS < n {
+        return false;
     }
+    has_defaults(draft, n)
+}
+
+// The rows of a draft as one declaration more. Rows that have a default are appended to a copy first.
+fn put_last(mem: &mut [u8], draft: &[u8], n: usize, bytes: usize) -> Answer
+    requires { ⌜ (wellFormed (now mem) ≡ true) × (countIn (now mem) < declarationLimit) × IsDraft (now draft) 0 n bytes ⌝ }
+    ensures { λ r. ⌜ ((rows : List Row) → Drafted (now (draft .entry)) 0 n bytes rows
+        → Ended (now (mem .entry)) (now (mem .exit)) r (append (decode (now (mem .entry))) rows)) ⌝ }
+{
+    if !asks_to_fit(draft, n) {
+        return join(mem, draft, 0, n, bytes);
+    }
+    let mut out = [0u8; Layout::LENGTH];
+    copy(&mut out, 0, mem);
+    let a = append(&mut out, draft, 0, n, bytes);
+    settle(mem, &out, a)
 }
 
 // The rows of a draft at a place: one declaration more where the place is the count.
@@ -118,7 +156,7 @@ fn put_rows(mem: &mut [u8], place: usize, draft: &[u8], n: usize, bytes: usize) 
         → Ended (now (mem .entry)) (now (mem .exit)) r (appendAll (take place (decode (now (mem .entry)))) (rows ∷ drop (place + 1) (decode (now (mem .entry)))))) ⌝ }
 {
     if declarations(mem) <= place {
-        return append(mem, draft, 0, n, bytes);
+        return put_last(mem, draft, n, bytes);
     }
     put_inside(mem, place, draft, n, bytes)
 }

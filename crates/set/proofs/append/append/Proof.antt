@@ -1,47 +1,29 @@
 -- `set::append::append` meets its contract.
 -- Assumes nothing.
 use Rattle.set.proofs.Places.{counts-asks}
-use Rattle.set.proofs.Appends.{rows-most, bytes-most, append-rows, append-strings, append-asks, push-asks, append-fault, append-done}
+use Rattle.set.proofs.Accepts.{append-refused, misfit-asks, append-misfit, append-done}
 use borrow.Author.Needs.{needs}
-use native.Mathlib.Omega.{arith}
 use Rattle.set.proofs.append.append.Statement.{statement}
 use Rattle.set.proofs.append.append.Tie as tie
 
 counts-requires : tie.Need-counts-requires
 counts-requires c κs = counts-asks _ (c .before .before .before .pre .0)
 
-sub-if1 : tie.Need-sub-if1
-sub-if1 c = rows-most _ (c .before .before .before .before .before .pre .0) _ (c .before .counts .ensures)
+join-requires : tie.Need-join-requires
+join-requires c κs = search needs
 
-refused-requires : tie.Need-refused-requires
-refused-requires c κs = search needs
+enum-known-a : tie.Need-enum-known-a
+enum-known-a c = search needs
 
-same-length : tie.Need-same-length
-same-length c = search needs
+enum-known-a-2 : tie.Need-enum-known-a-2
+enum-known-a-2 c = search needs
 
-returns : tie.Need-returns
-returns c =
-    λ rows d. append-rows _ (c .before .before .before .before .before .before .before .pre .0) _ (c .before .before .before .counts .ensures) _ _ _ _ (c .before .if1 .taken) rows d (c .refused .ensures)
+first-misfit-requires : tie.Need-first-misfit-requires
+first-misfit-requires c κs =
+    misfit-asks _ (c .before .before .before .before .before .before .before .before .before .before .before .before .pre .0) (c .before .before .before .before .before .before .before .before .before .before .before .before .pre .1) _ (c .before .before .before .before .before .before .before .before .counts .ensures) _ _ _ _ _ _ (c .before .before .before .before .before .before .join .ensures) (c .before .before .a2 .given .1) (c .before .before .before .before .before .before .before .before .before .before .before .before .pre .2)
 
-sub-if2 : tie.Need-sub-if2
-sub-if2 c = bytes-most _ (c .before .before .before .before .before .before .before .pre .0) _ (c .before .before .before .counts .ensures)
-
-refused-requires-2 : tie.Need-refused-requires-2
-refused-requires-2 c κs = search needs
-
-same-length-2 : tie.Need-same-length-2
-same-length-2 c = search needs
-
-returns-2 : tie.Need-returns-2
-returns-2 c =
-    λ rows d. append-strings _ (c .before .before .before .before .before .before .before .before .before .pre .0) _ (c .before .before .before .before .before .counts .ensures) _ _ _ _ (c .before .before .before .if1 .left) (c .before .if2 .taken) rows d (c .refused2 .ensures)
-
-first-fault-requires : tie.Need-first-fault-requires
-first-fault-requires c κs =
-    let d = append-asks _ (c .before .before .before .before .before .before .before .before .before .pre .0) _ (c .before .before .before .before .before .counts .ensures) _ _ _ _ (c .before .before .before .if1 .left) (c .before .if2 .left) (c .before .before .before .before .before .before .before .before .before .pre .2) in (d .0, omega (arith, d .1), d .2, omega (arith, d .3))
-
-enum-known-names : tie.Need-enum-known-names
-enum-known-names c = search needs
+enum-known-defaults : tie.Need-enum-known-defaults
+enum-known-defaults c = search needs
 
 placed-requires : tie.Need-placed-requires
 placed-requires c κs = search needs
@@ -49,43 +31,41 @@ placed-requires c κs = search needs
 enum-told : tie.Need-enum-told
 enum-told c = search needs
 
-push-requires : tie.Need-push-requires
-push-requires c κs =
-    push-asks _ (c .before .before .before .before .before .before .before .before .before .before .before .before .before .pre .0) _ (c .before .before .before .before .before .before .before .before .before .counts .ensures) _ _ _ _ (c .before .before .before .before .before .before .before .if1 .left) (c .before .before .before .before .before .if2 .left) (c .before .before .before .before .before .before .before .before .before .before .before .before .before .pre .2) (c .before .before .before .before .before .before .before .before .before .before .before .before .before .pre .1)
+same-length : tie.Need-same-length
+same-length c = search needs
+
+returns : tie.Need-returns
+returns c = append-refused _ (c .before .before .before .before .before .before .before .before .before .before .before .pre .0) (c .before .before .before .before .before .before .before .before .before .before .before .pre .1) _ (c .before .before .before .before .before .before .before .counts .ensures) _ _ _ _ _ _ (c .before .before .before .before .before .join .ensures) (c .before .a .given .1)
+
+same-length-2 : tie.Need-same-length-2
+same-length-2 c = search needs
+
+returns-2 : tie.Need-returns-2
+returns-2 c =
+    λ rows d. append-misfit _ (c .before .before .before .before .before .before .before .before .before .before .before .before .before .before .before .before .before .pre .0) (c .before .before .before .before .before .before .before .before .before .before .before .before .before .before .before .before .before .pre .1) _ (c .before .before .before .before .before .before .before .before .before .before .before .before .before .counts .ensures) _ _ _ _ _ _ (c .before .before .before .before .before .before .before .before .before .before .before .join .ensures) (c .before .before .before .before .before .before .before .a2 .given .1) _ (c .before .before .before .before .first-misfit .ensures) (c .before .before .defaults .given .1) rows d (c .placed .ensures)
 
 same-length-3 : tie.Need-same-length-3
 same-length-3 c = search needs
 
 returns-3 : tie.Need-returns-3
 returns-3 c =
-    λ rows d. append-fault _ (c .before .before .before .before .before .before .before .before .before .before .before .before .before .before .pre .0) _ (c .before .before .before .before .before .before .before .before .before .before .counts .ensures) _ _ _ _ (c .before .before .before .before .before .before .before .before .if1 .left) (c .before .before .before .before .before .before .if2 .left) _ (c .before .before .before .before .first-fault .ensures) (c .before .before .names .given .1) rows d (c .placed .ensures)
-
-same-length-4 : tie.Need-same-length-4
-same-length-4 c = search needs
-
-returns-4 : tie.Need-returns-4
-returns-4 c =
-    λ rows d. append-done _ (c .before .before .before .before .before .before .before .before .before .before .before .before .before .before .before .before .pre .0) _ (c .before .before .before .before .before .before .before .before .before .before .before .before .counts .ensures) _ _ _ _ (c .before .before .before .before .before .before .before .before .before .before .if1 .left) (c .before .before .before .before .before .before .before .before .if2 .left) _ (c .before .before .before .before .before .before .first-fault .ensures) (c .before .before .before .before .before .before .before .before .before .before .before .before .before .before .before .before .pre .1) (c .before .before .before .before .enum-told .given .1) (c .before .before .push .ensures .0) (c .before .before .push .ensures .1) rows d
+    append-done _ (c .before .before .before .before .before .before .before .before .before .before .before .before .before .before .before .pre .0) (c .before .before .before .before .before .before .before .before .before .before .before .before .before .before .before .pre .1) _ (c .before .before .before .before .before .before .before .before .before .before .before .counts .ensures) _ _ _ _ _ _ (c .before .before .before .before .before .before .before .before .before .join .ensures) (c .before .before .before .before .before .a2 .given .1) _ (c .before .before .first-misfit .ensures) (c .enum-told .given .1)
 
 pub append-spec : {M : Type 1} → statement M
 append-spec =
     tie.close
     (tie.spec
     counts-requires
-    sub-if1
-    refused-requires
-    same-length
-    returns
-    sub-if2
-    refused-requires-2
-    same-length-2
-    returns-2
-    first-fault-requires
-    enum-known-names
+    join-requires
+    enum-known-a
+    enum-known-a-2
+    first-misfit-requires
+    enum-known-defaults
     placed-requires
     enum-told
-    push-requires
+    same-length
+    returns
+    same-length-2
+    returns-2
     same-length-3
-    returns-3
-    same-length-4
-    returns-4)
+    returns-3)

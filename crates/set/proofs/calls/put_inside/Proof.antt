@@ -3,7 +3,7 @@
 use mathlib.Core.Path.{refl, sym, _∙_}
 use Rattle.set.proofs.Places.{is-long}
 use Rattle.set.proofs.Rests.{place-few}
-use Rattle.set.proofs.CallLaws.{before-well, draft-asks, inside-first, behind-asks, inside-later, inside-done}
+use Rattle.set.proofs.CallLaws.{before-well, draft-asks, inside-first, behind-asks, inside-settled}
 use borrow.Author.Needs.{needs}
 use native.Mathlib.Omega.{arith}
 use Rattle.set.proofs.calls.put_inside.Statement.{statement}
@@ -48,32 +48,20 @@ append-from-requires : tie.Need-append-from-requires
 append-from-requires c κs =
     behind-asks _ (c .before .before .before .before .before .before .before .before .before .before .before .before .before .pre .0) _ (c .before .before .before .before .before .before .before .before .before .before .before .before .before .pre .1) _ (c .before .before .before .before .before .before .before .before .copy-before .ensures) _ _ _ _ _ (c .before .before .before .before .before .append .ensures) _ (c .before .before .enum-told .given .1) (c .before .before .before .before .before .before .before .before .before .before .before .before .before .pre .2)
 
-enum-known-b : tie.Need-enum-known-b
-enum-known-b c = search needs
+slice-aggregate-settle : tie.Need-slice-aggregate-settle
+slice-aggregate-settle c =
+    sym (c .before .before .before .append-from .kept .0 ∙ is-long _ (behind-asks _ (c .before .before .before .before .before .before .before .before .before .before .before .before .before .before .before .before .before .pre .0) _ (c .before .before .before .before .before .before .before .before .before .before .before .before .before .before .before .before .before .pre .1) _ (c .before .before .before .before .before .before .before .before .before .before .before .before .copy-before .ensures) _ _ _ _ _ (c .before .before .before .before .before .before .before .before .before .append .ensures) _ (c .before .before .before .before .before .before .enum-told .given .1) (c .before .before .before .before .before .before .before .before .before .before .before .before .before .before .before .before .before .pre .2) .0))
 
-enum-known-b-2 : tie.Need-enum-known-b-2
-enum-known-b-2 c = search needs
-
-slice-aggregate-copy : tie.Need-slice-aggregate-copy
-slice-aggregate-copy c =
-    sym (c .before .before .before .before .before .before .append-from .kept .0 ∙ is-long _ (behind-asks _ (c .before .before .before .before .before .before .before .before .before .before .before .before .before .before .before .before .before .before .before .before .pre .0) _ (c .before .before .before .before .before .before .before .before .before .before .before .before .before .before .before .before .before .before .before .before .pre .1) _ (c .before .before .before .before .before .before .before .before .before .before .before .before .before .before .before .copy-before .ensures) _ _ _ _ _ (c .before .before .before .before .before .before .before .before .before .before .before .before .append .ensures) _ (c .before .before .before .before .before .before .before .before .before .enum-told .given .1) (c .before .before .before .before .before .before .before .before .before .before .before .before .before .before .before .before .before .before .before .before .pre .2) .0))
-
-copy-requires : tie.Need-copy-requires
-copy-requires c κs = search needs
+settle-requires : tie.Need-settle-requires
+settle-requires c κs =
+    is-long _ (c .before .before .before .before .before .before .before .before .before .before .before .before .before .before .before .before .before .pre .0) ∙ sym (c .before .before .before .append-from .kept .0 ∙ is-long _ (behind-asks _ (c .before .before .before .before .before .before .before .before .before .before .before .before .before .before .before .before .before .pre .0) _ (c .before .before .before .before .before .before .before .before .before .before .before .before .before .before .before .before .before .pre .1) _ (c .before .before .before .before .before .before .before .before .before .before .before .before .copy-before .ensures) _ _ _ _ _ (c .before .before .before .before .before .before .before .before .before .append .ensures) _ (c .before .before .before .before .before .before .enum-told .given .1) (c .before .before .before .before .before .before .before .before .before .before .before .before .before .before .before .before .before .pre .2) .0))
 
 same-length-2 : tie.Need-same-length-2
 same-length-2 c = search needs
 
 returns-2 : tie.Need-returns-2
 returns-2 c =
-    inside-later _ (c .before .before .before .before .before .before .before .before .before .before .before .before .before .before .before .before .before .before .pre .0) _ (c .before .before .before .before .before .before .before .before .before .before .before .before .before .before .before .before .before .before .pre .1) _ (c .before .before .before .before .before .before .before .before .before .before .before .before .before .copy-before .ensures) _ _ _ _ _ (c .before .before .before .before .before .before .before .before .before .before .append .ensures) _ (c .before .before .before .before .before .before .before .enum-told .given .1) _ _ (c .before .before .before .before .append-from .ensures) _ (c .before .b .given .1)
-
-same-length-3 : tie.Need-same-length-3
-same-length-3 c = search needs
-
-returns-3 : tie.Need-returns-3
-returns-3 c =
-    inside-done _ (c .before .before .before .before .before .before .before .before .before .before .before .before .before .before .before .before .before .before .before .before .before .before .before .pre .0) _ (c .before .before .before .before .before .before .before .before .before .before .before .before .before .before .before .before .before .before .before .before .before .before .before .pre .1) _ (c .before .before .before .before .before .before .before .before .before .before .before .before .before .before .before .before .before .before .copy-before .ensures) _ _ _ _ _ (c .before .before .before .before .before .before .before .before .before .before .before .before .before .before .before .append .ensures) _ (c .before .before .before .before .before .before .before .before .before .before .before .before .enum-told .given .1) _ _ (c .before .before .before .before .before .before .before .before .before .append-from .ensures) _ (c .before .before .before .before .before .before .b2 .given .1) (c .before .before .before .before .before .before .before .before .before .append-from .kept .0 ∙ is-long _ (behind-asks _ (c .before .before .before .before .before .before .before .before .before .before .before .before .before .before .before .before .before .before .before .before .before .before .before .pre .0) _ (c .before .before .before .before .before .before .before .before .before .before .before .before .before .before .before .before .before .before .before .before .before .before .before .pre .1) _ (c .before .before .before .before .before .before .before .before .before .before .before .before .before .before .before .before .before .before .copy-before .ensures) _ _ _ _ _ (c .before .before .before .before .before .before .before .before .before .before .before .before .before .before .before .append .ensures) _ (c .before .before .before .before .before .before .before .before .before .before .before .before .enum-told .given .1) (c .before .before .before .before .before .before .before .before .before .before .before .before .before .before .before .before .before .before .before .before .before .before .before .pre .2) .0)) _ (c .before .before .copy .ensures)
+    inside-settled _ (c .before .before .before .before .before .before .before .before .before .before .before .before .before .before .before .before .before .before .before .before .pre .0) _ (c .before .before .before .before .before .before .before .before .before .before .before .before .before .before .before .before .before .before .before .before .pre .1) _ (c .before .before .before .before .before .before .before .before .before .before .before .before .before .before .before .copy-before .ensures) _ _ _ _ _ (c .before .before .before .before .before .before .before .before .before .before .before .before .append .ensures) _ (c .before .before .before .before .before .before .before .before .before .enum-told .given .1) _ (c .before .before .before .before .before .before .append-from .ensures) (c .before .before .settle .ensures)
 
 pub put-inside-spec : {M : Type 1} → statement M
 put-inside-spec =
@@ -90,11 +78,7 @@ put-inside-spec =
     slice-aggregate-append-from
     add-append-from
     append-from-requires
-    enum-known-b
-    enum-known-b-2
-    slice-aggregate-copy
-    copy-requires
+    slice-aggregate-settle
+    settle-requires
     same-length-2
-    returns-2
-    same-length-3
-    returns-3)
+    returns-2)

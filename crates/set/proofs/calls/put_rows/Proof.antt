@@ -9,14 +9,14 @@ use Rattle.set.proofs.calls.put_rows.Tie as tie
 declarations-requires : tie.Need-declarations-requires
 declarations-requires c κs = is-long _ (c .before .before .before .pre .0)
 
-append-requires : tie.Need-append-requires
-append-requires c κs = search needs
+put-last-requires : tie.Need-put-last-requires
+put-last-requires c κs = search needs
 
 same-length : tie.Need-same-length
 same-length c = search needs
 
 returns : tie.Need-returns
-returns c = last-rows _ (c .before .before .before .before .before .before .before .before .before .pre .0) _ (c .before .before .before .before .before .declarations .ensures) (c .before .before .before .before .if1 .taken) (c .before .before .append .ensures)
+returns c = last-rows _ (c .before .before .before .before .before .before .before .before .before .pre .0) _ (c .before .before .before .before .before .declarations .ensures) (c .before .before .before .before .if1 .taken) (c .before .before .put-last .ensures)
 
 put-inside-requires : tie.Need-put-inside-requires
 put-inside-requires c κs = search needs
@@ -32,7 +32,7 @@ put-rows-spec =
     tie.close
     (tie.spec
     declarations-requires
-    append-requires
+    put-last-requires
     same-length
     returns
     put-inside-requires
