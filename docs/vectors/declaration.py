@@ -440,7 +440,7 @@ def main(where):
         if where == "cases":
             print("%-60s %s" % (c.label, got[0] if got[0].startswith("refused") else got[-1]))
     print(len(cases), "texts;", "accepted", counts[0], "; refused by number:", {n: counts[n] for n in sorted(counts) if n}, file=sys.stderr)
-    for n in list(range(2, 20)) + [27, 28]:
+    for n in list(range(2, 20)) + [27, 28, 48]:
         assert counts[n] >= 6, ("fewer than six", n)
     stdin = "\n".join(lines) + "\n"
     assert len(cases) >= 450 and len(stdin) < 1400000, (len(cases), len(stdin))

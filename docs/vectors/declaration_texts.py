@@ -949,10 +949,12 @@ class Mark:
 class Maker:
     """Writes a schema of random form with its rows. A text is a tree of strings and marks, so that positions come out once it
     is laid flat. With a site number, the fault of that site is put in, and `fault` tells what must be found. With `fit` there
-    are many decimals over fixed, around their limits; what is drawn for them comes from a source of its own."""
+    are many decimals over fixed, around their limits, with `defaults` many fields have one; what is drawn for them comes from a
+    source of its own. `held` has for the mark of such a field's name the mark and the text of its default."""
 
-    def __init__(self, seed, site=None, fit=False):
+    def __init__(self, seed, site=None, fit=False, defaults=False):
         self.rng, self.site, self.sites, self.fault, self.serial = random.Random(seed), site, 0, None, 0
+        self.defaults, self.held = random.Random("defaults %d" % seed) if defaults else None, {}
         self.fit, self.notes = random.Random("fit %d" % seed) if fit else None, []
         self.room = self.rng.randint(6, 22)
 
@@ -1153,6 +1155,12 @@ class Maker:
                     rows.append(("field-alias", depth + 2, a, t, 0, 0, 0, 0))
                 pairs.append(("aliases", self.listed([x for _, x in also])))
             names += [s] + [t for t, _ in also]
+            if self.defaults and self.defaults.random() < 0.7:
+                d, v = Mark(), self.default()
+                if self.here(48, d):
+                    v = self.defaults.choice(('"%s"' % ("x" * 254), "[%s]" % (" " * 300), "1" * 256))
+                self.held[m] = d, v
+                pairs.append(("default", [d, v]))
             text, more = self.schema(own, depth + 2)
             if not self.here(5, f):
                 pairs.append(("type", text))
@@ -1162,6 +1170,12 @@ class Maker:
         if not self.here(10, obj):
             out.append(("fields", self.listed(fields)))
         return [obj] + self.members(out), rows
+
+    def default(self):
+        """Any value of at most 255 bytes: whether it fits is not asked."""
+        r = self.defaults
+        return r.choice(("null", "true", "-0", "1.5e3", '""', r'"\u00e9 \" } ]"', '"é😀"', "[]", "[ ]", "{}", '{"type": "int", "default": [1, {"name":"x"}]}', "[[[ ]],\n{ }]", "7" * r.randint(1, 255), '"%s"' % ("y" * r.choice((3, 252, 253))),
+                         '[%s]' % (" " * r.choice((7, 253)))))
 
     def enum(self, space, depth, taken):
         obj = Mark()
@@ -1244,8 +1258,8 @@ def flat(tree, out, places):
             flat(t, out, places)
 
 
-def made(seed, site=None, fit=False):
-    maker = Maker(seed, site, fit)
+def made(seed, site=None, fit=False, defaults=False):
+    maker = Maker(seed, site, fit, defaults)
     text, rows = maker.schema("", 0)
     out, places = bytearray(), {}
     out += b" \n"[:seed % 3]
@@ -2189,5 +2203,142 @@ sizes()
 assert sum(len(c.text) for c in MANY) <= 160000, sum(len(c.text) for c in MANY)
 
 
+# ---- defaults of fields: request A6
+#
+# What is kept, and 48. Whether a default fits is not asked of a text alone. They stand in a list of their own, as those above do.
+
+KEPT = []
+L = '"%s"' % ("x" * 254)
+
+
+def held(label, rows, text):
+    yes("kept: " + label, rows, text)
+    KEPT.append(CASES.pop())
+
+
+def over(number, label, text):
+    no(number, "kept: " + label, text)
+    KEPT.append(CASES.pop())
+
+
+def in_field(default, type_='"int"'):
+    """A record with a field that has a default; all positions are marked."""
+    return '{"type":"record","name":^"R","fields":[{"name":^"a","type":^%s,"default":%s}]}' % (type_, default)
+
+
+def fields(*texts):
+    return '{"type":"record","name":"R","fields":[%s]}' % ",".join(texts)
+
+
+def percent(text):
+    return urllib.parse.quote(text, safe='{}[]":,.-+\\')
+
+
+# each kind of value, whether it fits or not; white space around it is cut and white space inside is kept
+for v in ("null", "true", "false", "0", "-0", "1.5", "1E+2", '""', '"none"', '" x "', '"é"', '"Ж😀"', r'"\u00e9"', r'"\ud83d\ude00"', r'"\"\\\/\n"', "[]", "[ ]", "[ 1 , 2 ]", "{}", "{ }", '{"k":1,"k":"x"}', r'{"\u006b": [ null ]}', "9" * 250):
+    held("the value " + v[:30], "0 record R; 1 field a :%s; 2 int" % percent(v), in_field("^" + v))
+held("white space around", "0 record R; 1 field a :5; 2 int", in_field(" \t\r\n ^5 \n\r\t "))
+held("white space around and inside", "0 record R; 1 field a :%s; 2 int" % percent("[\t5 ,\r\n6 ]"), in_field("  ^[\t5 ,\r\n6 ]  "))
+held("a value that looks like a schema", "0 record R; 1 field a :%s; 2 int" % percent('{"type":"record","name":"1","fields":5,"default":{}}'), in_field('^{"type":"record","name":"1","fields":5,"default":{}}'))
+held("strings in a default are no names", "0 record n.R; 1 field a :\"1-\"; 2 reference n.R", '{"type":"record","name":^"R","namespace":"n","fields":[{"default":^"1-","name":^"a","type":^"R"}]}')
+# where it stands
+held("the first member", "0 record R; 1 field a :5; 2 field-alias b; 2 int", '{"type":"record","name":^"R","fields":[{"default":^5,"name":^"a","aliases":[^"b"],"type":^"int"}]}')
+held("between the others", "0 record R; 1 field a :5; 2 field-alias b; 2 int", '{"type":"record","name":^"R","fields":[{"type":^"int","aliases":[^"b"],"default":^5,"name":^"a","doc":"d"}]}')
+held("before a type with rows of its own", "0 record R; 1 field a :{}; 2 record S; 3 field b :[]; 4 map; 5 null; 1 field c; 2 null",
+     '{"type":"record","name":^"R","fields":[{"name":^"a","default":^{},"type":{"type":"record","name":^"S","fields":[{"default":^[],"type":^{"type":"map","values":^"null"},"name":^"b"}]}},{"name":^"c","type":^"null"}]}')
+held("behind a type with rows of its own", "0 record R; 1 field a :{}; 2 record S; 3 field b :[]; 4 int", '{"type":"record","name":^"R","fields":[{"name":^"a","type":{"type":"record","name":^"S","fields":[{"name":^"b","type":^"int","default":^[]}]},"default":^{}}]}')
+held("several fields", "0 record R; 1 field a :1; 2 int; 1 field b; 2 int; 1 field c :%s; 2 union; 1 field d :null; 2 fixed F =3" % percent('"x y"'),
+     '{"type":"record","name":^"R","fields":[{"name":^"a","type":^"int","default":^1},{"name":^"b","type":^"int"},{"name":^"c","type":^[],"default":^"x y"},{"name":^"d","type":{"type":"fixed","name":^"F","size":3},"default":^null}]}')
+# given twice; the key with escapes
+held("twice, the last counts", "0 record R; 1 field a :2; 2 int", '{"type":"record","name":^"R","fields":[{"name":^"a","default":"one","type":^"int","default":^2}]}')
+held("twice, the first too long", "0 record R; 1 field a :2; 2 int", '{"type":"record","name":^"R","fields":[{"name":^"a","default":%s,"type":^"int","default":^2}]}' % L)
+held("twice, the last null", "0 record R; 1 field a :null; 2 int", '{"type":"record","name":^"R","fields":[{"name":^"a","default":1,"type":^"int","default":^null}]}')
+held("the key with escapes", "0 record R; 1 field a :2; 2 int", r'{"type":"record","name":^"R","fields":[{"name":^"a","type":^"int","d\u0065f\u0061ult":^2}]}')
+held("the key twice, once with escapes", "0 record R; 1 field a :2; 2 int", r'{"type":"record","name":^"R","fields":[{"name":^"a","type":^"int","default":"x","\u0064efault":^2}]}')
+held("keys that are others", "0 record R; 1 field a; 2 int", r'{"type":"record","name":^"R","fields":[{"name":^"a","type":^"int","Default":1,"default ":2,"defaul":3,"default\u0000":4,"":5}]}')
+# not a field's
+held("beside types that are no fields", "0 record R; 1 field a; 2 array; 3 int", '{"type":"record","default":%s,"name":^"R","fields":["default",5,{"name":^"a","type":^{"type":"array","default":%s,"items":{"type":^"int","default":"x"}}}]}' % (L, L))
+held("on top", "0 map; 1 string", '^{"type":"map","default":%s,"values":{"type":^"string","default":5}}' % L)
+held("in a field's type, not of the field", "0 record R; 1 field a; 2 int", '{"type":"record","name":^"R","fields":[{"name":^"a","type":{"type":^"int","default":5}}]}')
+held("of the field and of its type", "0 record R; 1 field a :6; 2 int", '{"type":"record","name":^"R","fields":[{"name":^"a","default":^6,"type":{"type":^"int","default":5}}]}')
+held("of an enum and of the field", "0 record R; 1 field a :5; 2 enum E; 3 symbol A", '{"type":"record","name":^"R","fields":[{"name":^"a","default":^5,"type":{"type":"enum","name":^"E","symbols":[^"A"],"default":"A"}}]}')
+over(15, "of an enum, no string", fields('{"name":"a","default":"A","type":{"type":"enum","name":"E","symbols":["A"],"default":^5}}'))
+over(16, "of an enum, no symbol", fields('{"name":"a","default":"A","type":{"type":"enum","name":"E","symbols":["A"],"default":^"B"}}'))
+# 255 and 256 bytes
+for label, v in (("letters", lambda n: '"%s"' % ("x" * (n - 2))), ("letters of two bytes", lambda n: '"%s%s"' % ("x" * (n % 2), "é" * ((n - 2) // 2))), ("escapes", lambda n: '"%s%s"' % (r"\u0078" * ((n - 2) // 6), "x" * ((n - 2) % 6))),
+                 ("white space inside", lambda n: "[%s]" % ((" \t\r\n" * 64)[:n - 2])), ("digits", lambda n: "1" * n), ("members", lambda n: '{"%s":0}' % ("k" * (n - 6)))):
+    for n in (254, 255):
+        assert len(v(n).encode()) == n
+        if n == 255 or label == "letters":
+            held("%d bytes, %s" % (n, label), "0 record R; 1 field a :%s; 2 int" % percent(v(n)), in_field("^" + v(n)))
+    assert len(v(256).encode()) == 256
+    over(48, "256 bytes, " + label, in_field(v(256)).replace("^", "").replace('"default":', '"default":^'))
+held("255 bytes, and white space around", "0 record R; 1 field a :%s; 2 int" % ('"%s"' % ("x" * 253)), in_field(" " * 40 + '^"%s"' % ("x" * 253) + "\n" * 40))
+over(48, "256 bytes, and white space around", fields('{"name":"a","type":"int","default": \n ^%s }' % L))
+over(48, "512 bytes", fields('{"name":"a","type":"int","default":^"%s"}' % ("x" * 510)))
+over(48, "twice, the last too long", fields('{"name":"a","type":"int","default":1,"default":^%s}' % L))
+over(48, "the key with escapes", fields(r'{"name":"a","type":"int","\u0064efault":^%s}' % L))
+# 48 and the faults of the same field: 6, 7, 9 of its name and of its aliases before it, 5 and the type's behind it
+over(6, "no name", fields('^{"type":"int","default":%s}' % L))
+over(6, "a name that is no string", fields('^{"default":%s,"name":null,"type":"int"}' % L))
+over(7, "a bad name", fields('{"default":%s,"name":"a^.b","type":"int"}' % L))
+over(7, "a bad alias", fields('{"default":%s,"name":"a","aliases":["b","^"],"type":"int"}' % L))
+over(7, "a bad alias, and no type", fields('{"name":"a","aliases":["^1"],"default":%s}' % L))
+over(9, "a name of 256 bytes", fields('{"default":%s,"name":^"~256~","type":"int"}' % L))
+over(9, "an alias of 256 bytes", fields('{"default":%s,"name":"a","aliases":["b",^"~256~"],"type":"int"}' % L))
+over(48, "no type", fields('{"name":"a","default":^%s}' % L))
+over(5, "no type, 255 bytes", fields('^{"name":"a","default":%s}' % ('"%s"' % ("x" * 253))))
+over(48, "aliases that count as absent", fields('{"name":"a","aliases":["1",5],"default":^%s}' % L))
+for number, t in ((4, "5"), (5, "{}"), (7, '"1"'), (9, '"~256~"'), (16, '{"type":"enum","name":"E","symbols":[],"default":"A"}'), (18, '{"type":"fixed","name":"F","size":"1"}'), (19, '["int","int"]'), (28, '{"type":"map"}')):
+    over(48, "before %d of the type" % number, fields('{"name":"a","type":%s,"default":^%s}' % (t, L)))
+over(48, "of the outer field before that of the inner", fields('{"name":"a","type":%s,"default":^%s}' % (fields('{"name":"b","type":"int","default":%s}' % L).replace('"R"', '"S"'), L)))
+over(48, "of an inner field", fields('{"name":"a","type":%s,"default":5}' % fields('{"name":"b","type":"int","default":^%s}' % L).replace('"R"', '"S"')))
+# other fields
+over(5, "in an earlier field", fields('^{"name":"a"}', '{"name":"b","type":"int","default":%s}' % L))
+over(48, "before 5 of a later field", fields('{"name":"b","type":"int","default":^%s}' % L, '{"name":"a"}'))
+over(48, "before 6 of a later field", fields('{"name":"b","type":"int","default":^%s}' % L, "{}"))
+over(48, "before 11", fields('{"name":"a","type":"int"}', '{"name":"a","type":"int","default":^%s}' % L))
+over(48, "before 11, in the field that has the name first", fields('{"name":"a","type":"int","default":^%s}' % L, '{"name":"a","type":"int"}'))
+over(11, "with defaults that do not fit", fields('{"name":"a","type":"int","default":"x"}', '{"name":^"a","type":"int","default":"y"}'))
+over(11, "of an inner record before 48 of a later field", fields('{"name":"a","type":%s}' % fields('{"name":"b","type":"int"}', '{"name":^"b","type":"int"}').replace('"R"', '"S"'), '{"name":"c","type":"int","default":%s}' % L))
+over(19, "of the member before 48 in it", '["R",^%s]' % fields('{"name":"a","type":"int","default":%s}' % L))
+over(48, "before 19 of the next member", '[%s,"R"]' % fields('{"name":"a","type":"int","default":^%s}' % L))
+over(10, "fields that are no array", '^{"type":"record","name":"R","fields":{"name":"a","type":"int","default":%s}}' % L)
+over(2, "behind it", fields('{"name":"a","type":"int","default":%s}' % L) + "^]")
+over(3, "inside it", '{"type":"record","name":"R","fields":[{"name":"a","type":"int","default":' + "[" * 61 + "^[" + "]" * 62 + "}]}")
+held("61 brackets", "0 record R; 1 field a :%s; 2 int" % ("[" * 61 + "]" * 61), in_field("^" + "[" * 61 + "]" * 61))
+# string bytes: a name and 63 aliases of 252 bytes, a field of 1 or 2, a default of 255
+for n, total in (("a", 16384), ("ab", 16385)):
+    held("%d string bytes" % total, "66/%d" % total, '{"type":"record","name":"R","namespace":"~250~","aliases":[%s],"fields":[{"name":"%s","type":"int","default":"%s"}]}' % (",".join(['"a"'] * 63), n, "x" * 253))
+
+
+def generated_defaults():
+    """Texts of the generator with defaults."""
+    seen = {c.text for c in CASES + NEAR + FIT + MANY + KEPT}
+    good, seed = 0, 40000
+    while good < 14:
+        seed += 1
+        maker, text, rows, places = made(seed, None, False, True)
+        if len(text) > 400 or text in seen or len(maker.held) < 2:
+            continue
+        seen.add(text)
+        KEPT.append(Case("ok generated defaults %d" % seed, text, 0, None, row_lines(rows, places, maker.held), None))
+        good += 1
+    wanted = collections.Counter({48: 3, 7: 1, 11: 1, 19: 1})
+    while sum(wanted.values()):
+        seed += 1
+        for site in range(made(seed, None, False, True)[0].sites):
+            maker, text, _, places = made(seed, site, False, True)
+            if maker.fault is None or wanted[maker.fault[0]] <= 0 or len(text) > 520 or text in seen or maker.fault[1] not in places or len(maker.held) < 2:
+                continue
+            seen.add(text)
+            wanted[maker.fault[0]] -= 1
+            KEPT.append(Case("%d generated defaults %d at %d" % (maker.fault[0], seed, site), text, maker.fault[0], places[maker.fault[1]], None, None))
+            break
+
+
+generated_defaults()
+
+
 def all_cases():
-    return CASES + NEAR + FIT + MANY
+    return CASES + NEAR + FIT + MANY + KEPT
