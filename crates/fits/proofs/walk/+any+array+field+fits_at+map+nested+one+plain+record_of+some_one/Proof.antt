@@ -438,7 +438,8 @@ map-returns-4 t c =
     (then-true (c .before .before .before .before .before .before .before .before .before .before .before .before .before .before .before .before .before .before .is-object .ensures) (not-false _ (c .before .before .before .before .before .before .before .before .before .before .before .before .before .before .before .before .before .if1 .left)) (visit-bad _ _ (c .before .before .before .before .before .before .before .before .before .before .before .before .before .before .before .loop .inv .2) (c .before .before .before .before .before .before .before .before .before .before .before .before .before .entry .given .1) (member-value _ _ _ _ _ (c .before .before .before .before .before .before .before .before .before .before .before .under-key .ensures) (c .before .before .before .before .before .before .before .before .before .v .given .1) (c .before .before .before .before .before .fits-at .ensures .0)) (not-true _ (c .if2 .taken))), c .before .before .before .before .before .fits-at .ensures .1, c .before .before .before .before .before .fits-at .ensures .2)
 
 map-next-member-requires : (t : ℕ) → map-lts.Need-next-member-requires (map-calls t) (map-at t) map.Post map-Inv-loop map-μ-loop
-map-next-member-requires t c κs = search needs
+map-next-member-requires t c κs =
+    c .before .before .before .before .before .before .before .before .before .before .before .before .before .before .before .before .before .before .before .before .before .before .before .before .pre .1 .2
 
 map-loop-less : (t : ℕ) → map-lts.Need-loop-less (map-calls t) (map-at t) map.Post map-Inv-loop map-μ-loop
 map-loop-less t c =
