@@ -5,12 +5,14 @@
     python3 docs/vectors/declaration.py cases                  every text with its label and answer
 
 Written from document 01, its sections Text, Names, Rows and Numbers returned, for the position of 7 from request A2 of 02, for a
-decimal's note 7 from request A10, and from nothing else; the scan for 1, 2 and 3 is that of scan.py. The texts stand in
-declaration_texts.py, each with the answer that was worked out by hand.
+decimal's note 7 from request A10, for a field's default and 48 from request A6, and from nothing else; the scan for 1, 2 and 3 is
+that of scan.py. The texts stand in declaration_texts.py, each with the answer that was worked out by hand.
 
 stdin has a text to a line in hexadecimal digits, `-` for no bytes. stdout has for each text either `refused NUMBER POSITION`,
-or `row KIND DEPTH POSITION SIZE NOTE PRECISION SCALE HEX` for each row and then `end ROWS BYTES`, the number of rows and of
-string bytes; the rows are left out where there are over 1,024 of them, or over 16,384 string bytes.
+or `row KIND DEPTH POSITION SIZE NOTE PRECISION SCALE HEX AT HEX` for each row and then `end ROWS BYTES`, the number of rows and of
+string bytes; the rows are left out where there are over 1,024 of them, or over 16,384 string bytes. The last two words of a row
+are the position of a field's default and its text as written, `0 -` where there is none; its bytes are string bytes. Whether a
+default fits its type is not asked here: a text alone does not say.
 """
 import collections
 import os
@@ -27,7 +29,8 @@ HIGHEST = 2 ** 64 - 1
 PRIMITIVES = [b"null", b"boolean", b"int", b"long", b"float", b"double", b"bytes", b"string"]
 RESERVED = PRIMITIVES + [b"record", b"enum", b"fixed"]
 
-Row = collections.namedtuple("Row", "kind depth position string size note precision scale")
+# default is the text of a field's default as it is written, b"" where there is none; at is its position
+Row = collections.namedtuple("Row", "kind depth position string size note precision scale at default", defaults=(0, b""))
 
 
 class Refused(Exception):
@@ -39,10 +42,10 @@ class Refused(Exception):
 class Value:
     """kind is string, number, word, array or object. inside is a string's bytes with escapes undone, a number's or word's
     bytes as written, an array's values, or an object's pairs of key and value. written is what stands between a string's
-    quotes."""
+    quotes. The value stands from at up to end."""
 
-    def __init__(self, kind, at, inside, written=None):
-        self.kind, self.at, self.inside, self.written = kind, at, inside, written
+    def __init__(self, kind, at, end, inside, written=None):
+        self.kind, self.at, self.end, self.inside, self.written = kind, at, end, inside, written
 
     def member(self, key):
         """The value of a key, None where it is missing. A key given twice: the last counts."""
@@ -79,7 +82,7 @@ def value_at(text, at):
         end = at + 1
         while text[end] != ord('"'):
             end += 2 if text[end] == ord("\\") else 1
-        return Value("string", at, undone(text[at + 1:end]), text[at + 1:end]), end + 1
+        return Value("string", at, end + 1, undone(text[at + 1:end]), text[at + 1:end]), end + 1
     if c == b"[":
         inside, here = [], skip(text, at + 1)
         while text[here] != ord("]"):
@@ -88,7 +91,7 @@ def value_at(text, at):
             here = skip(text, here)
             if text[here] == ord(","):
                 here = skip(text, here + 1)
-        return Value("array", at, inside), here + 1
+        return Value("array", at, here + 1, inside), here + 1
     if c == b"{":
         inside, here = [], skip(text, at + 1)
         while text[here] != ord("}"):
@@ -100,9 +103,9 @@ def value_at(text, at):
             here = skip(text, here)
             if text[here] == ord(","):
                 here = skip(text, here + 1)
-        return Value("object", at, inside), here + 1
+        return Value("object", at, here + 1, inside), here + 1
     end = WORD.match(text, at).end()
-    return Value("word" if c in b"tfn" else "number", at, text[at:end]), end
+    return Value("word" if c in b"tfn" else "number", at, end, text[at:end]), end
 
 
 def size_of(v):
@@ -184,8 +187,8 @@ def must_keep(rule, s):
 class Walk:
     """The rows of a declaration in preorder."""
 
-    def __init__(self):
-        self.rows = []
+    def __init__(self, text):
+        self.text, self.rows = text, []
 
     def row(self, kind, depth, position, string=b"", size=0, note=0, precision=0, scale=0):
         self.rows.append(Row(kind, depth, position, string, size, note, precision, scale))
@@ -290,9 +293,14 @@ class Walk:
     def field(self, f, space, depth):
         name = f.member(b"name")
         refuse_unless(name is not None and name.kind == "string", 6, f.at)
+        own = len(self.rows)
         self.simple("field", name, depth)
         for alias in aliases(f):
             self.simple("field-alias", alias, depth + 1)
+        default = f.member(b"default")
+        if default is not None:
+            refuse_unless(default.end - default.at <= LONGEST_STRING, 48, default.at)
+            self.rows[own] = self.rows[own]._replace(at=default.at, default=self.text[default.at:default.end])
         t = f.member(b"type")
         refuse_unless(t is not None, 5, f.at)
         self.schema(t, space, depth + 1, nobody)
@@ -387,7 +395,7 @@ def declaration(text):
         refuse(*found)
     top, end = value_at(text, skip(text, 0))
     assert skip(text, end) == len(text)
-    walk = Walk()
+    walk = Walk(text)
     walk.schema(top, b"", 0, nobody)
     return walk.rows
 
@@ -395,7 +403,12 @@ def declaration(text):
 # ---- stdin and stdout
 
 def row_line(r):
-    return "row %s %d %d %d %d %d %d %s" % (r.kind, r.depth, r.position, r.size, r.note, r.precision, r.scale, r.string.hex() or "-")
+    return "row %s %d %d %d %d %d %d %s %d %s" % (r.kind, r.depth, r.position, r.size, r.note, r.precision, r.scale, r.string.hex() or "-", r.at, r.default.hex() or "-")
+
+
+def string_bytes(rows):
+    """Each kept string takes its length, a default too."""
+    return sum(len(r.string) + len(r.default) for r in rows)
 
 
 def answer(text):
@@ -403,7 +416,7 @@ def answer(text):
         rows = declaration(text)
     except Refused as r:
         return ["refused %d %d" % r.args]
-    count = sum(len(r.string) for r in rows)
+    count = string_bytes(rows)
     lines = [] if len(rows) > MOST_ROWS or count > MOST_BYTES else [row_line(r) for r in rows]
     return lines + ["end %d %d" % (len(rows), count)]
 
@@ -427,7 +440,7 @@ def main(where):
         if where == "cases":
             print("%-60s %s" % (c.label, got[0] if got[0].startswith("refused") else got[-1]))
     print(len(cases), "texts;", "accepted", counts[0], "; refused by number:", {n: counts[n] for n in sorted(counts) if n}, file=sys.stderr)
-    for n in list(range(2, 20)) + [27, 28]:
+    for n in list(range(2, 20)) + [27, 28, 48]:
         assert counts[n] >= 6, ("fewer than six", n)
     stdin = "\n".join(lines) + "\n"
     assert len(cases) >= 450 and len(stdin) < 1400000, (len(cases), len(stdin))

@@ -1,16 +1,18 @@
 #!/usr/bin/env python3
 """The texts of declaration.py, each with the answer that was worked out by hand from document 01 and, where 7 stands, from
-request A2 of 02; a decimal's note 7 is that of request A10.
+request A2 of 02; a decimal's note 7 is that of request A10, a field's default and 48 are those of request A6.
 
 In a text ^ marks the byte where the refusal must stand and is left out; in an accepted text the marks, if there are any, are
-the positions of all rows. ~40~ stands for the letter n forty times. Rows are written `DEPTH KIND STRING`, with `=SIZE` and
-`#NOTE` or `#1,PRECISION,SCALE` where these are not 0, separated by `; `; or `ROWS/BYTES` where only the counts are given.
+the positions of all rows and of all defaults of fields. ~40~ stands for the letter n forty times. Rows are written `DEPTH KIND
+STRING`, with `=SIZE` and `#NOTE` or `#1,PRECISION,SCALE` where these are not 0 and `:DEFAULT` where a field has one, separated by
+`; `; or `ROWS/BYTES` where only the counts are given. In DEFAULT %20 is a blank, and so with other bytes that would not do.
 """
 import collections
 import itertools
 import json
 import random
 import re
+import urllib.parse
 
 Case = collections.namedtuple("Case", "label text number position rows marks")
 CASES = []
@@ -41,20 +43,22 @@ def yes(label, rows, text):
 
 
 def expected_rows(rows):
-    """[(kind, depth, string, size, note, precision, scale)] from the short form."""
+    """[(kind, depth, string, size, note, precision, scale, default)] from the short form."""
     out = []
     for r in rows.split(";"):
         words = r.split()
-        depth, kind, string, size, note = int(words[0]), words[1], "", 0, (0, 0, 0)
+        depth, kind, string, size, note, default = int(words[0]), words[1], "", 0, (0, 0, 0), b""
         for w in words[2:]:
             if w[0] == "=":
                 size = int(w[1:])
             elif w[0] == "#":
                 note = tuple(int(x) for x in (w[1:] + ",0,0").split(",")[:3])
+            elif w[0] == ":":
+                default = unmarked(urllib.parse.unquote_to_bytes(w[1:]))[0]
             else:
                 string = w
         string = unmarked(string)[0]
-        out.append((kind, depth, string, size) + note)
+        out.append((kind, depth, string, size) + note + (default,))
     return out
 
 
@@ -73,13 +77,15 @@ def judge(case, got):
         want = expected_rows(case.rows)
         have = []
         for line in got[:-1]:
-            _, kind, depth, _, size, note, precision, scale, string = line.split(" ")
-            string = b"" if string == "-" else bytes.fromhex(string)
-            have.append((kind, int(depth), string, int(size), int(note), int(precision), int(scale)))
+            _, kind, depth, _, size, note, precision, scale, string, at, default = line.split(" ")
+            string, default = (b"" if x == "-" else bytes.fromhex(x) for x in (string, default))
+            assert default or at == "0", (case.label, line)
+            have.append((kind, int(depth), string, int(size), int(note), int(precision), int(scale), default))
         assert have == want, (case.label, case.text, want, have)
-        assert got[-1] == "end %d %d" % (len(want), sum(len(w[2]) for w in want)), (case.label, got[-1])
+        assert got[-1] == "end %d %d" % (len(want), sum(len(w[2]) + len(w[7]) for w in want)), (case.label, got[-1])
     if case.marks is not None:
-        assert sorted(int(line.split(" ")[3]) for line in got[:-1]) == case.marks, (case.label, case.text, case.marks, got)
+        lines = [line.split(" ") for line in got[:-1]]
+        assert sorted([int(w[3]) for w in lines] + [int(w[9]) for w in lines if w[10] != "-"]) == case.marks, (case.label, case.text, case.marks, got)
 
 
 # ---- 01's own listing, and texts as users write them
@@ -88,8 +94,8 @@ yes("01's listing", "0 record a.R; 1 field x; 2 int; 1 field next; 2 union; 3 nu
     '{"type":"record","name":^"R","namespace":"a","fields":[{"name":^"x","type":^"int"},{"name":^"next","type":^[^"null",^"R"]}]}')
 yes("01's listing, its canonical text", "0 record a.R; 1 field x; 2 int; 1 field next; 2 union; 3 null; 3 reference a.R",
     '{"name":^"a.R","type":"record","fields":[{"name":^"x","type":^"int"},{"name":^"next","type":^[^"null",^"a.R"]}]}')
-yes("a user record over lines", "0 record com.example.hr.Employee; 1 field id; 2 long; 1 field name; 2 string; 1 field email; 2 union; 3 null; 3 string; "
-    "1 field salary; 2 bytes #1,12,2; 1 field manager; 2 union; 3 null; 3 reference com.example.hr.Employee; 1 field tags; 2 map; 3 array; 4 string; "
+yes("a user record over lines", "0 record com.example.hr.Employee; 1 field id; 2 long; 1 field name; 2 string; 1 field email :null; 2 union; 3 null; 3 string; "
+    "1 field salary; 2 bytes #1,12,2; 1 field manager :null; 2 union; 3 null; 3 reference com.example.hr.Employee; 1 field tags; 2 map; 3 array; 4 string; "
     "1 field grade; 2 enum com.example.hr.Grade; 3 alias com.example.hr.Level; 3 symbol JUNIOR; 3 symbol SENIOR; 1 field badge; 2 fixed com.example.hr.Badge =16", """
 {
   "type": "record",
@@ -99,9 +105,9 @@ yes("a user record over lines", "0 record com.example.hr.Employee; 1 field id; 2
   "fields": [
     {"name": ^"id", "type": ^"long"},
     {"name": ^"name", "type": ^"string", "doc": "as on the contract"},
-    {"name": ^"email", "type": ^[^"null", ^"string"], "default": null},
+    {"name": ^"email", "type": ^[^"null", ^"string"], "default": ^null},
     {"name": ^"salary", "type": {"type": ^"bytes", "logicalType": "decimal", "precision": 12, "scale": 2}},
-    {"name": ^"manager", "type": ^[^"null", ^"Employee"], "default": null},
+    {"name": ^"manager", "type": ^[^"null", ^"Employee"], "default": ^null},
     {"name": ^"tags", "type": ^{"type": "map", "values": ^{"type": "array", "items": ^"string"}}, "order": "ignore"},
     {"name": ^"grade", "type": {"type": "enum", "name": ^"Grade", "aliases": [^"Level"], "symbols": [^"JUNIOR", ^"SENIOR"], "default": "JUNIOR"}},
     {"name": ^"badge", "type": {"type": "fixed", "name": ^"Badge", "size": 16}}
@@ -134,7 +140,7 @@ yes("a module summary", "0 record ld.Summary; 1 field unit; 2 string; 1 field se
     '{"name":"name","aliases":["label"],"type":"string"},{"name":"size","type":"long"},{"name":"flags","type":["null","Flags"]}]}}},{"name":"sum","type":{"type":"fixed","name":"Sum","size":8}}]}')
 yes("a tree of a map of itself", "0 record Tree; 1 field label; 2 string; 1 field kids; 2 map; 3 reference Tree",
     '{"type":"record","name":"Tree","fields":[{"name":"label","type":"string"},{"name":"kids","type":{"type":"map","values":"Tree"}}]}')
-yes("an event with two records in a union", "0 record log.Event; 1 field at; 2 long; 1 field what; 2 union; 3 record log.Start; 4 field pid; 5 int; 3 record log.Stop; 4 field code; 5 union; 6 null; 6 int",
+yes("an event with two records in a union", "0 record log.Event; 1 field at; 2 long; 1 field what; 2 union; 3 record log.Start; 4 field pid; 5 int; 3 record log.Stop; 4 field code :null; 5 union; 6 null; 6 int",
     '{"type":"record","name":"Event","namespace":"log","fields":[{"name":"at","type":{"type":"long","logicalType":"timestamp-millis"}},{"name":"what","type":['
     '{"type":"record","name":"Start","fields":[{"name":"pid","type":"int"}]},{"type":"record","name":"Stop","fields":[{"name":"code","type":["null","int"],"default":null}]}]}]}')
 
@@ -552,7 +558,7 @@ yes("a default", "0 enum E; 1 symbol A; 1 symbol B", '{"type":"enum","name":"E",
 yes("a default spelt with an escape", "0 enum E; 1 symbol A", r'{"type":"enum","name":"E","symbols":["A"],"default":"\u0041"}')
 yes("a symbol spelt with an escape, the default plain", "0 enum E; 1 symbol A", r'{"type":"enum","name":"E","symbols":["\u0041"],"default":"A"}')
 yes("a default given twice, the last good", "0 enum E; 1 symbol A", '{"type":"enum","name":"E","symbols":["A"],"default":5,"default":"A"}')
-yes("a default of a record, an array, a fixed is not looked at", "0 record R; 1 field f; 2 array; 3 fixed F =1; 1 field g; 2 enum E; 3 symbol A",
+yes("a default of a record, an array, a fixed is not looked at", "0 record R; 1 field f :{}; 2 array; 3 fixed F =1; 1 field g :5; 2 enum E; 3 symbol A",
     '{"type":"record","name":"R","default":5,"fields":[{"name":"f","default":{},"type":{"type":"array","default":1,"items":{"type":"fixed","name":"F","default":7,"size":1}}},{"name":"g","default":5,"type":{"type":"enum","name":"E","symbols":["A"]}}]}')
 
 # ---- 17, 18: a fixed's size
@@ -943,10 +949,12 @@ class Mark:
 class Maker:
     """Writes a schema of random form with its rows. A text is a tree of strings and marks, so that positions come out once it
     is laid flat. With a site number, the fault of that site is put in, and `fault` tells what must be found. With `fit` there
-    are many decimals over fixed, around their limits; what is drawn for them comes from a source of its own."""
+    are many decimals over fixed, around their limits, with `defaults` many fields have one; what is drawn for them comes from a
+    source of its own. `held` has for the mark of such a field's name the mark and the text of its default."""
 
-    def __init__(self, seed, site=None, fit=False):
+    def __init__(self, seed, site=None, fit=False, defaults=False):
         self.rng, self.site, self.sites, self.fault, self.serial = random.Random(seed), site, 0, None, 0
+        self.defaults, self.held = random.Random("defaults %d" % seed) if defaults else None, {}
         self.fit, self.notes = random.Random("fit %d" % seed) if fit else None, []
         self.room = self.rng.randint(6, 22)
 
@@ -1147,6 +1155,12 @@ class Maker:
                     rows.append(("field-alias", depth + 2, a, t, 0, 0, 0, 0))
                 pairs.append(("aliases", self.listed([x for _, x in also])))
             names += [s] + [t for t, _ in also]
+            if self.defaults and self.defaults.random() < 0.7:
+                d, v = Mark(), self.default()
+                if self.here(48, d):
+                    v = self.defaults.choice(('"%s"' % ("x" * 254), "[%s]" % (" " * 300), "1" * 256))
+                self.held[m] = d, v
+                pairs.append(("default", [d, v]))
             text, more = self.schema(own, depth + 2)
             if not self.here(5, f):
                 pairs.append(("type", text))
@@ -1156,6 +1170,12 @@ class Maker:
         if not self.here(10, obj):
             out.append(("fields", self.listed(fields)))
         return [obj] + self.members(out), rows
+
+    def default(self):
+        """Any value of at most 255 bytes: whether it fits is not asked."""
+        r = self.defaults
+        return r.choice(("null", "true", "-0", "1.5e3", '""', r'"\u00e9 \" } ]"', '"é😀"', "[]", "[ ]", "{}", '{"type": "int", "default": [1, {"name":"x"}]}', "[[[ ]],\n{ }]", "7" * r.randint(1, 255), '"%s"' % ("y" * r.choice((3, 252, 253))),
+                         '[%s]' % (" " * r.choice((7, 253)))))
 
     def enum(self, space, depth, taken):
         obj = Mark()
@@ -1238,8 +1258,8 @@ def flat(tree, out, places):
             flat(t, out, places)
 
 
-def made(seed, site=None, fit=False):
-    maker = Maker(seed, site, fit)
+def made(seed, site=None, fit=False, defaults=False):
+    maker = Maker(seed, site, fit, defaults)
     text, rows = maker.schema("", 0)
     out, places = bytearray(), {}
     out += b" \n"[:seed % 3]
@@ -1247,8 +1267,13 @@ def made(seed, site=None, fit=False):
     return maker, bytes(out), rows, places
 
 
-def row_lines(rows, places):
-    return ["row %s %d %d %d %d %d %d %s" % (k, d, places[m], size, note, p, sc, s.encode().hex() or "-") for k, d, m, s, size, note, p, sc in rows]
+def row_lines(rows, places, held=None):
+    """held has for the mark of a field's name its default: mark and text."""
+    out = []
+    for k, d, m, s, size, note, p, sc in rows:
+        at, default = (held or {}).get(m, (None, ""))
+        out.append("row %s %d %d %d %d %d %d %s %d %s" % (k, d, places[m], size, note, p, sc, s.encode().hex() or "-", places[at] if at else 0, default.encode().hex() or "-"))
+    return out
 
 
 def generated():
@@ -1639,7 +1664,7 @@ fit("every size, at the limit", "0 record R" + "".join("; 1 field f%d; 2 fixed F
     '{"type":"record","name":^"R","fields":[%s]}' % ",".join('{"name":^"f%d","type":%s}' % (i, fixed_decimal(i, m, None, "F%d" % i)) for i, m in enumerate(SIXTEEN, 1)))
 fit("every size, one above", "0 union" + "".join("; 1 fixed F%d =%d #7" % (i, i) for i, m in enumerate(SIXTEEN, 1)), "^[%s]" % ",".join(fixed_decimal(i, m + 1, m, "F%d" % i) for i, m in enumerate(SIXTEEN, 1)))
 fit("twenty digits at every size", "0 union" + "".join("; 1 fixed F%d =%d #%s" % (i, i, "7" if i < 9 else "1,20,0") for i in range(19)), "^[%s]" % ",".join(fixed_decimal(i, 20, None, "F%d" % i) for i in range(19)))
-fit("a ledger over lines", "0 record bank.Entry; 1 field amount; 2 fixed bank.Amount =8 #1,18,2; 1 field total; 2 fixed bank.Total =8 #7; 1 field rate; 2 bytes #1,60,40; 1 field fee; 2 union; 3 null; 3 reference bank.Amount", """
+fit("a ledger over lines", "0 record bank.Entry; 1 field amount; 2 fixed bank.Amount =8 #1,18,2; 1 field total; 2 fixed bank.Total =8 #7; 1 field rate; 2 bytes #1,60,40; 1 field fee :null; 2 union; 3 null; 3 reference bank.Amount", """
 {
   "type": "record",
   "name": ^"Entry",
@@ -1648,7 +1673,7 @@ fit("a ledger over lines", "0 record bank.Entry; 1 field amount; 2 fixed bank.Am
     {"name": ^"amount", "type": {"type": "fixed", "name": ^"Amount", "size": 8, "logicalType": "decimal", "precision": 18, "scale": 2}},
     {"name": ^"total", "type": {"type": "fixed", "name": ^"Total", "size": 8, "logicalType": "decimal", "precision": 20, "scale": 2}},
     {"name": ^"rate", "type": {"type": ^"bytes", "logicalType": "decimal", "precision": 60, "scale": 40}},
-    {"name": ^"fee", "type": ^[^"null", ^"Amount"], "default": null}
+    {"name": ^"fee", "type": ^[^"null", ^"Amount"], "default": ^null}
   ]
 }
 """)
@@ -2178,5 +2203,142 @@ sizes()
 assert sum(len(c.text) for c in MANY) <= 160000, sum(len(c.text) for c in MANY)
 
 
+# ---- defaults of fields: request A6
+#
+# What is kept, and 48. Whether a default fits is not asked of a text alone. They stand in a list of their own, as those above do.
+
+KEPT = []
+L = '"%s"' % ("x" * 254)
+
+
+def held(label, rows, text):
+    yes("kept: " + label, rows, text)
+    KEPT.append(CASES.pop())
+
+
+def over(number, label, text):
+    no(number, "kept: " + label, text)
+    KEPT.append(CASES.pop())
+
+
+def in_field(default, type_='"int"'):
+    """A record with a field that has a default; all positions are marked."""
+    return '{"type":"record","name":^"R","fields":[{"name":^"a","type":^%s,"default":%s}]}' % (type_, default)
+
+
+def fields(*texts):
+    return '{"type":"record","name":"R","fields":[%s]}' % ",".join(texts)
+
+
+def percent(text):
+    return urllib.parse.quote(text, safe='{}[]":,.-+\\')
+
+
+# each kind of value, whether it fits or not; white space around it is cut and white space inside is kept
+for v in ("null", "true", "false", "0", "-0", "1.5", "1E+2", '""', '"none"', '" x "', '"é"', '"Ж😀"', r'"\u00e9"', r'"\ud83d\ude00"', r'"\"\\\/\n"', "[]", "[ ]", "[ 1 , 2 ]", "{}", "{ }", '{"k":1,"k":"x"}', r'{"\u006b": [ null ]}', "9" * 250):
+    held("the value " + v[:30], "0 record R; 1 field a :%s; 2 int" % percent(v), in_field("^" + v))
+held("white space around", "0 record R; 1 field a :5; 2 int", in_field(" \t\r\n ^5 \n\r\t "))
+held("white space around and inside", "0 record R; 1 field a :%s; 2 int" % percent("[\t5 ,\r\n6 ]"), in_field("  ^[\t5 ,\r\n6 ]  "))
+held("a value that looks like a schema", "0 record R; 1 field a :%s; 2 int" % percent('{"type":"record","name":"1","fields":5,"default":{}}'), in_field('^{"type":"record","name":"1","fields":5,"default":{}}'))
+held("strings in a default are no names", "0 record n.R; 1 field a :\"1-\"; 2 reference n.R", '{"type":"record","name":^"R","namespace":"n","fields":[{"default":^"1-","name":^"a","type":^"R"}]}')
+# where it stands
+held("the first member", "0 record R; 1 field a :5; 2 field-alias b; 2 int", '{"type":"record","name":^"R","fields":[{"default":^5,"name":^"a","aliases":[^"b"],"type":^"int"}]}')
+held("between the others", "0 record R; 1 field a :5; 2 field-alias b; 2 int", '{"type":"record","name":^"R","fields":[{"type":^"int","aliases":[^"b"],"default":^5,"name":^"a","doc":"d"}]}')
+held("before a type with rows of its own", "0 record R; 1 field a :{}; 2 record S; 3 field b :[]; 4 map; 5 null; 1 field c; 2 null",
+     '{"type":"record","name":^"R","fields":[{"name":^"a","default":^{},"type":{"type":"record","name":^"S","fields":[{"default":^[],"type":^{"type":"map","values":^"null"},"name":^"b"}]}},{"name":^"c","type":^"null"}]}')
+held("behind a type with rows of its own", "0 record R; 1 field a :{}; 2 record S; 3 field b :[]; 4 int", '{"type":"record","name":^"R","fields":[{"name":^"a","type":{"type":"record","name":^"S","fields":[{"name":^"b","type":^"int","default":^[]}]},"default":^{}}]}')
+held("several fields", "0 record R; 1 field a :1; 2 int; 1 field b; 2 int; 1 field c :%s; 2 union; 1 field d :null; 2 fixed F =3" % percent('"x y"'),
+     '{"type":"record","name":^"R","fields":[{"name":^"a","type":^"int","default":^1},{"name":^"b","type":^"int"},{"name":^"c","type":^[],"default":^"x y"},{"name":^"d","type":{"type":"fixed","name":^"F","size":3},"default":^null}]}')
+# given twice; the key with escapes
+held("twice, the last counts", "0 record R; 1 field a :2; 2 int", '{"type":"record","name":^"R","fields":[{"name":^"a","default":"one","type":^"int","default":^2}]}')
+held("twice, the first too long", "0 record R; 1 field a :2; 2 int", '{"type":"record","name":^"R","fields":[{"name":^"a","default":%s,"type":^"int","default":^2}]}' % L)
+held("twice, the last null", "0 record R; 1 field a :null; 2 int", '{"type":"record","name":^"R","fields":[{"name":^"a","default":1,"type":^"int","default":^null}]}')
+held("the key with escapes", "0 record R; 1 field a :2; 2 int", r'{"type":"record","name":^"R","fields":[{"name":^"a","type":^"int","d\u0065f\u0061ult":^2}]}')
+held("the key twice, once with escapes", "0 record R; 1 field a :2; 2 int", r'{"type":"record","name":^"R","fields":[{"name":^"a","type":^"int","default":"x","\u0064efault":^2}]}')
+held("keys that are others", "0 record R; 1 field a; 2 int", r'{"type":"record","name":^"R","fields":[{"name":^"a","type":^"int","Default":1,"default ":2,"defaul":3,"default\u0000":4,"":5}]}')
+# not a field's
+held("beside types that are no fields", "0 record R; 1 field a; 2 array; 3 int", '{"type":"record","default":%s,"name":^"R","fields":["default",5,{"name":^"a","type":^{"type":"array","default":%s,"items":{"type":^"int","default":"x"}}}]}' % (L, L))
+held("on top", "0 map; 1 string", '^{"type":"map","default":%s,"values":{"type":^"string","default":5}}' % L)
+held("in a field's type, not of the field", "0 record R; 1 field a; 2 int", '{"type":"record","name":^"R","fields":[{"name":^"a","type":{"type":^"int","default":5}}]}')
+held("of the field and of its type", "0 record R; 1 field a :6; 2 int", '{"type":"record","name":^"R","fields":[{"name":^"a","default":^6,"type":{"type":^"int","default":5}}]}')
+held("of an enum and of the field", "0 record R; 1 field a :5; 2 enum E; 3 symbol A", '{"type":"record","name":^"R","fields":[{"name":^"a","default":^5,"type":{"type":"enum","name":^"E","symbols":[^"A"],"default":"A"}}]}')
+over(15, "of an enum, no string", fields('{"name":"a","default":"A","type":{"type":"enum","name":"E","symbols":["A"],"default":^5}}'))
+over(16, "of an enum, no symbol", fields('{"name":"a","default":"A","type":{"type":"enum","name":"E","symbols":["A"],"default":^"B"}}'))
+# 255 and 256 bytes
+for label, v in (("letters", lambda n: '"%s"' % ("x" * (n - 2))), ("letters of two bytes", lambda n: '"%s%s"' % ("x" * (n % 2), "é" * ((n - 2) // 2))), ("escapes", lambda n: '"%s%s"' % (r"\u0078" * ((n - 2) // 6), "x" * ((n - 2) % 6))),
+                 ("white space inside", lambda n: "[%s]" % ((" \t\r\n" * 64)[:n - 2])), ("digits", lambda n: "1" * n), ("members", lambda n: '{"%s":0}' % ("k" * (n - 6)))):
+    for n in (254, 255):
+        assert len(v(n).encode()) == n
+        if n == 255 or label == "letters":
+            held("%d bytes, %s" % (n, label), "0 record R; 1 field a :%s; 2 int" % percent(v(n)), in_field("^" + v(n)))
+    assert len(v(256).encode()) == 256
+    over(48, "256 bytes, " + label, in_field(v(256)).replace("^", "").replace('"default":', '"default":^'))
+held("255 bytes, and white space around", "0 record R; 1 field a :%s; 2 int" % ('"%s"' % ("x" * 253)), in_field(" " * 40 + '^"%s"' % ("x" * 253) + "\n" * 40))
+over(48, "256 bytes, and white space around", fields('{"name":"a","type":"int","default": \n ^%s }' % L))
+over(48, "512 bytes", fields('{"name":"a","type":"int","default":^"%s"}' % ("x" * 510)))
+over(48, "twice, the last too long", fields('{"name":"a","type":"int","default":1,"default":^%s}' % L))
+over(48, "the key with escapes", fields(r'{"name":"a","type":"int","\u0064efault":^%s}' % L))
+# 48 and the faults of the same field: 6, 7, 9 of its name and of its aliases before it, 5 and the type's behind it
+over(6, "no name", fields('^{"type":"int","default":%s}' % L))
+over(6, "a name that is no string", fields('^{"default":%s,"name":null,"type":"int"}' % L))
+over(7, "a bad name", fields('{"default":%s,"name":"a^.b","type":"int"}' % L))
+over(7, "a bad alias", fields('{"default":%s,"name":"a","aliases":["b","^"],"type":"int"}' % L))
+over(7, "a bad alias, and no type", fields('{"name":"a","aliases":["^1"],"default":%s}' % L))
+over(9, "a name of 256 bytes", fields('{"default":%s,"name":^"~256~","type":"int"}' % L))
+over(9, "an alias of 256 bytes", fields('{"default":%s,"name":"a","aliases":["b",^"~256~"],"type":"int"}' % L))
+over(48, "no type", fields('{"name":"a","default":^%s}' % L))
+over(5, "no type, 255 bytes", fields('^{"name":"a","default":%s}' % ('"%s"' % ("x" * 253))))
+over(48, "aliases that count as absent", fields('{"name":"a","aliases":["1",5],"default":^%s}' % L))
+for number, t in ((4, "5"), (5, "{}"), (7, '"1"'), (9, '"~256~"'), (16, '{"type":"enum","name":"E","symbols":[],"default":"A"}'), (18, '{"type":"fixed","name":"F","size":"1"}'), (19, '["int","int"]'), (28, '{"type":"map"}')):
+    over(48, "before %d of the type" % number, fields('{"name":"a","type":%s,"default":^%s}' % (t, L)))
+over(48, "of the outer field before that of the inner", fields('{"name":"a","type":%s,"default":^%s}' % (fields('{"name":"b","type":"int","default":%s}' % L).replace('"R"', '"S"'), L)))
+over(48, "of an inner field", fields('{"name":"a","type":%s,"default":5}' % fields('{"name":"b","type":"int","default":^%s}' % L).replace('"R"', '"S"')))
+# other fields
+over(5, "in an earlier field", fields('^{"name":"a"}', '{"name":"b","type":"int","default":%s}' % L))
+over(48, "before 5 of a later field", fields('{"name":"b","type":"int","default":^%s}' % L, '{"name":"a"}'))
+over(48, "before 6 of a later field", fields('{"name":"b","type":"int","default":^%s}' % L, "{}"))
+over(48, "before 11", fields('{"name":"a","type":"int"}', '{"name":"a","type":"int","default":^%s}' % L))
+over(48, "before 11, in the field that has the name first", fields('{"name":"a","type":"int","default":^%s}' % L, '{"name":"a","type":"int"}'))
+over(11, "with defaults that do not fit", fields('{"name":"a","type":"int","default":"x"}', '{"name":^"a","type":"int","default":"y"}'))
+over(11, "of an inner record before 48 of a later field", fields('{"name":"a","type":%s}' % fields('{"name":"b","type":"int"}', '{"name":^"b","type":"int"}').replace('"R"', '"S"'), '{"name":"c","type":"int","default":%s}' % L))
+over(19, "of the member before 48 in it", '["R",^%s]' % fields('{"name":"a","type":"int","default":%s}' % L))
+over(48, "before 19 of the next member", '[%s,"R"]' % fields('{"name":"a","type":"int","default":^%s}' % L))
+over(10, "fields that are no array", '^{"type":"record","name":"R","fields":{"name":"a","type":"int","default":%s}}' % L)
+over(2, "behind it", fields('{"name":"a","type":"int","default":%s}' % L) + "^]")
+over(3, "inside it", '{"type":"record","name":"R","fields":[{"name":"a","type":"int","default":' + "[" * 61 + "^[" + "]" * 62 + "}]}")
+held("61 brackets", "0 record R; 1 field a :%s; 2 int" % ("[" * 61 + "]" * 61), in_field("^" + "[" * 61 + "]" * 61))
+# string bytes: a name and 63 aliases of 252 bytes, a field of 1 or 2, a default of 255
+for n, total in (("a", 16384), ("ab", 16385)):
+    held("%d string bytes" % total, "66/%d" % total, '{"type":"record","name":"R","namespace":"~250~","aliases":[%s],"fields":[{"name":"%s","type":"int","default":"%s"}]}' % (",".join(['"a"'] * 63), n, "x" * 253))
+
+
+def generated_defaults():
+    """Texts of the generator with defaults."""
+    seen = {c.text for c in CASES + NEAR + FIT + MANY + KEPT}
+    good, seed = 0, 40000
+    while good < 14:
+        seed += 1
+        maker, text, rows, places = made(seed, None, False, True)
+        if len(text) > 400 or text in seen or len(maker.held) < 2:
+            continue
+        seen.add(text)
+        KEPT.append(Case("ok generated defaults %d" % seed, text, 0, None, row_lines(rows, places, maker.held), None))
+        good += 1
+    wanted = collections.Counter({48: 3, 7: 1, 11: 1, 19: 1})
+    while sum(wanted.values()):
+        seed += 1
+        for site in range(made(seed, None, False, True)[0].sites):
+            maker, text, _, places = made(seed, site, False, True)
+            if maker.fault is None or wanted[maker.fault[0]] <= 0 or len(text) > 520 or text in seen or maker.fault[1] not in places or len(maker.held) < 2:
+                continue
+            seen.add(text)
+            wanted[maker.fault[0]] -= 1
+            KEPT.append(Case("%d generated defaults %d at %d" % (maker.fault[0], seed, site), text, maker.fault[0], places[maker.fault[1]], None, None))
+            break
+
+
+generated_defaults()
+
+
 def all_cases():
-    return CASES + NEAR + FIT + MANY
+    return CASES + NEAR + FIT + MANY + KEPT

@@ -3,8 +3,9 @@
 
     python3 docs/vectors/replay.py < script > answers
 
-Written from document 01 (its sections Rabin, Numbers returned, The set and Canonical text), request A4 of 02 and docs/LAYOUT.md. Texts
-are read by declaration.py; whether memory is a well-formed set is decided by wellformed.py. The lines of a script:
+Written from document 01 (its sections Rabin, Numbers returned, The set and Canonical text), requests A4 and A6 of 02 and docs/LAYOUT.md. Texts
+are read by declaration.py; whether memory is a well-formed set is decided by wellformed.py, whether a default fits by fitting.py. The lines of
+a script:
 
     memory N                    the calls are lent the first N bytes of memory from now on; ok
     fill BYTE                   every byte of memory is set to BYTE; ok
@@ -14,7 +15,8 @@ are read by declaration.py; whether memory is a well-formed set is decided by we
     name PLACE ROW              ok HEX, or refused ..
     canonical PLACE OFFSET ROOM ok LENGTH HEX, or refused .. HEX: into a buffer of ROOM bytes, each 170 before; HEX is all of it
     fingerprint PLACE           ok SIGNED HEX, or refused ..
-    rows PLACE                  row KIND DEPTH POSITION SIZE NOTE PRECISION SCALE HEX for each row, and end; or refused ..
+    rows PLACE                  row KIND DEPTH POSITION SIZE NOTE PRECISION SCALE HEX AT HEX for each row, and end; or refused .. The last two
+                                words are the position of a field's default and its text, 0 and - where there is none
     scan HEX                    ok, or refused NUMBER 0 POSITION
     digest                      digest HEX: the fingerprint of the bytes lent
 
@@ -28,9 +30,10 @@ import sys
 sys.path.insert(0, os.path.dirname(os.path.abspath(__file__)))
 sys.setrecursionlimit(20000)
 import declaration
+import fitting
 import scan
 import wellformed
-from declaration import Refused, Row
+from declaration import Refused, Row, string_bytes
 
 LENGTH, MOST_DECLARATIONS = 51266, 32
 MEMORY, MOST_ROOM, UNTOUCHED = LENGTH + 64, 131072, 170
@@ -83,8 +86,9 @@ def encoded(declarations):
     header = struct.pack("<H", len(declarations)) + b"".join(struct.pack("<H", len(d)) for d in declarations)
     rows, strings = b"", b""
     for r in (r for d in declarations for r in d):
-        rows += struct.pack("<BBHHBBHQQQ", NUMBERS[r.kind], r.note, r.depth, r.position, len(r.string), 0, len(strings), r.size, r.precision, r.scale)
-        strings += r.string
+        assert r.size == 0 if r.kind == "field" else r.at == 0
+        rows += struct.pack("<BBHHBBHQQQ", NUMBERS[r.kind], r.note, r.depth, r.position, len(r.string), len(r.default), len(strings), r.size + r.at, r.precision, r.scale)
+        strings += r.string + r.default
     return header.ljust(66, b"\0") + rows.ljust(34816, b"\0") + strings.ljust(16384, b"\0")
 
 
@@ -95,8 +99,11 @@ def decoded(memory):
     for count in counts[1:1 + counts[0]]:
         rows = []
         for _ in range(count):
-            kind, note, depth, position, length, _, start, size, precision, scale = struct.unpack_from("<BBHHBBHQQQ", memory, 66 + 34 * i)
-            rows.append(Row(KINDS[kind], depth, position, bytes(memory[34882 + start:34882 + start + length]), size, note, precision, scale))
+            kind, note, depth, position, length, more, start, size, precision, scale = struct.unpack_from("<BBHHBBHQQQ", memory, 66 + 34 * i)
+            start += 34882
+            string, default = bytes(memory[start:start + length]), bytes(memory[start + length:start + length + more])
+            size, at = (0, size) if KINDS[kind] == "field" else (size, 0)
+            rows.append(Row(KINDS[kind], depth, position, string, size, note, precision, scale, at, default))
             i += 1
         out.append(rows)
     return out
@@ -111,12 +118,8 @@ class No(Exception):
 DEFINITIONS = ("record", "enum", "fixed")
 
 
-def string_bytes(rows):
-    return sum(len(r.string) for r in rows)
-
-
 def check_from(declarations, place):
-    """23 to 26 for each declaration from the place on, in turn."""
+    """23 to 26 and then 47 for each declaration from the place on, in turn."""
     for k in range(place, len(declarations)):
         so_far = [r for d in declarations[:k + 1] for r in d]
         if len(so_far) > declaration.MOST_ROWS:
@@ -131,6 +134,12 @@ def check_from(declarations, place):
                 defined.add(r.string)
             elif r.kind == "reference" and r.string not in defined:
                 raise No(26, k, r.position)
+        if any(r.default for r in declarations[k]):
+            first = len(so_far) - len(declarations[k])
+            types = fitting.Types((r.kind, r.depth, r.string, r.size, r.default) for r in so_far)
+            for i, r in enumerate(declarations[k], first):
+                if r.default and not types.default_fits(i):
+                    raise No(47, k, r.at)
 
 
 def counts(declarations):

@@ -28,7 +28,7 @@ class Now:
     """The sequence that is being written."""
     machine = replay.Machine()
     texts = []     # the texts in the set, None where memory was poked
-    marks = []     # the marked position of each
+    marks = []     # the marked positions of each
     digest = None
 
 
@@ -71,10 +71,10 @@ def from_nothing(texts):
     return bytes(m.memory[:replay.LENGTH])
 
 
-def put(place, text, want=None, behind=None):
-    """A text put at a place; want is a refusal's number, at the place or at one behind it, or the counts."""
+def put(place, text, want=None, behind=None, which=0):
+    """A text put at a place; want is a refusal's number, at the place or at one behind it, or the counts. which says at what mark."""
     plain, marks = unmarked(text)
-    mark = marks[0] if marks else None
+    mark = marks[which] if marks and behind is None else None
     if Now.digest is None:
         digest()
     before, count = Now.digest, len(Now.texts)
@@ -84,7 +84,7 @@ def put(place, text, want=None, behind=None):
     if isinstance(want, int):
         number = want
         at = place if behind is None else behind
-        position = 0 if number in (20, 21, 22, 23, 24) else 32768 if number == 1 else mark if behind is None else Now.marks[behind]
+        position = 0 if number in (20, 21, 22, 23, 24) else 32768 if number == 1 else mark if behind is None else Now.marks[behind][which]
         assert got == ["refused %d %d %d" % (number, at, position)], (SEQUENCES[-1], place, plain[:200], want, got)
         assert Now.digest == before
         if number != 20:
@@ -95,7 +95,7 @@ def put(place, text, want=None, behind=None):
     assert got[0].startswith("ok"), (SEQUENCES[-1], place, plain[:200], got)
     assert want is None or got == ["ok %d %d %d" % want], (SEQUENCES[-1], place, plain[:200], want, got)
     assert place <= count and place < 32 and got[0].split()[1] == str(max(count, place + 1))
-    Now.texts, Now.marks = edited, Now.marks[:place] + [mark] + Now.marks[place + 1:]
+    Now.texts, Now.marks = edited, Now.marks[:place] + [marks] + Now.marks[place + 1:]
     if None not in Now.texts:
         assert from_nothing(Now.texts) == bytes(Now.machine.memory[:replay.LENGTH])
 
@@ -1559,7 +1559,7 @@ def puts():
             ask("rows %d" % n, 21)
             put(n, "  []", (n + 1, n + 1, 0))
             put(n, "   []", (n + 1, n + 1, 0))
-            ask("rows %d" % n, "row union 0 3 0 0 0 0 -")
+            ask("rows %d" % n, "row union 0 3 0 0 0 0 - 0 -")
         if n < 31:
             put(n + 1, "[]", (n + 2, n + 2, 0))
             put(n + 3, "[]", 21)
@@ -1568,7 +1568,7 @@ def puts():
             put(32, "[]", 22)
             put(31, "[]", (32, 32, 0))
         for place in sorted({0, n // 2, n - 1} & set(range(min(n, 31)))):
-            ask("rows %d" % place, "row union 0 1 0 0 0 0 -")
+            ask("rows %d" % place, "row union 0 1 0 0 0 0 - 0 -")
 
     for n in (0, 1, 2, 31, 32):
         seq("a text with a fault at places of a set of %d: 21 and 22 before it" % n)
@@ -1750,7 +1750,7 @@ def puts():
     for line, want in (("put 00 205b5d", "ok 1 1 0"), ("put 01 5b5d", "ok 2 2 0"), ("put 002 -", "refused 2 2 0"), ("put 03 5b5d", "refused 21 3 0")):
         ask(line, want)
         digest()
-    ask("rows 0", "row union 0 1 0 0 0 0 -")
+    ask("rows 0", "row union 0 1 0 0 0 0 - 0 -")
 
     pool = ["[]", " []", '["A"]', '"A"', '"B"', '["A","B"]', '["null","C"]', F("A"), F("B"), F("C"), F("D"), E("A"), E("C"), R("B", '"A"'), R("C", '"B"', '"C"'), ref("A"), "5", "", '""', '["int","int"]',
             "[%s,%s]" % (plain(F("A")), plain(F("B")))]

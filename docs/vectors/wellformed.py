@@ -1,6 +1,6 @@
 #!/usr/bin/env python3
-"""Verdicts of well-formedness, by a decoder written from docs/LAYOUT.md, document 01 and, for a decimal's note 7, request A10 of 02
-alone.
+"""Verdicts of well-formedness, by a decoder written from docs/LAYOUT.md, document 01 and two requests of 02 alone: A10 for a decimal's
+note 7, A6 for the default of a field, which is one JSON value by scan.py and fits its type by fitting.py.
 
     python3 docs/vectors/wellformed.py stdin  > crates/resolve_run/stdin
     python3 docs/vectors/wellformed.py stdout > crates/resolve_run/stdout
@@ -14,9 +14,14 @@ A line of stdin is a command of the program resolve_run:
                  a time, and judge the memory each time: three digits for each byte, then the end of the line
     n            the end of the line
 """
+import os
 import re
 import struct
 import sys
+
+sys.path.insert(0, os.path.dirname(os.path.abspath(__file__)))
+import fitting
+import scan
 
 LENGTH, ROWS, ROW, STRINGS = 51266, 66, 34, 34882
 KINDS = {1: "null", 2: "boolean", 3: "int", 4: "long", 5: "float", 6: "double", 7: "bytes", 8: "string", 16: "reference",
@@ -53,14 +58,13 @@ def declarations(mem):
     for k in range(n):
         rows = []
         for _ in range(counts[k]):
-            kind, note, depth, position, length, default, start, size, precision, scale = struct.unpack_from("<BBHHBBHQQQ", mem, ROWS + ROW * i)
+            kind, note, depth, position, length, more, start, size, precision, scale = struct.unpack_from("<BBHHBBHQQQ", mem, ROWS + ROW * i)
             need(kind in KINDS)
             need(start == end)
-            need(default == 0)
-            end += length
+            end += length + more
             need(end <= 16384)
-            text = bytes(mem[STRINGS + start:STRINGS + end])
-            rows.append(dict(kind=KINDS[kind], note=note, depth=depth, position=position, text=text, size=size, precision=precision, scale=scale))
+            both = bytes(mem[STRINGS + start:STRINGS + end])
+            rows.append(dict(kind=KINDS[kind], note=note, depth=depth, position=position, text=both[:length], default=both[length:], size=size, precision=precision, scale=scale))
             i += 1
         out.append(rows)
     need(not any(mem[ROWS + ROW * total:STRINGS]))
@@ -91,7 +95,14 @@ def check_row(r):
     else:
         need(s == b"")
     need(r["position"] < 32768)
-    need(kind == "fixed" or r["size"] == 0)
+    if r["default"]:
+        need(kind == "field")
+        need(r["size"] < 32768)
+        # one value, valid UTF-8, nested at most 64 deep, and nothing before it or behind it
+        need(scan.scan(r["default"]) is None)
+        need(r["default"][0] not in b" \t\r\n" and r["default"][-1] not in b" \t\r\n")
+    else:
+        need(kind == "fixed" or r["size"] == 0)
     need(r["note"] <= {"bytes": 6, "fixed": 7}.get(kind, 0))
     if r["note"] == 1:
         need(r["precision"] >= 1 and r["precision"] >= r["scale"])
@@ -161,6 +172,14 @@ def well_formed(mem):
                 names.add(r["text"])
             elif r["kind"] == "reference":
                 need(r["text"] in names)
+        # each default fits its type, among the rows up to and with its own declaration's
+        so_far = []
+        for rows in ds:
+            so_far += rows
+            if any(r["default"] for r in rows):
+                types = fitting.Types((r["kind"], r["depth"], r["text"], r["size"], r["default"]) for r in so_far)
+                for i in range(len(so_far) - len(rows), len(so_far)):
+                    need(so_far[i]["default"] == b"" or types.default_fits(i))
         return True
     except Bad:
         return False
@@ -168,8 +187,9 @@ def well_formed(mem):
 
 # ---- writing memory
 
-def row(kind, depth, text=b"", position=0, size=0, note=0, precision=0, scale=0):
-    return kind, depth, text, position, size, note, precision, scale
+def row(kind, depth, text=b"", position=0, size=0, note=0, precision=0, scale=0, default=b""):
+    """A field's size is the position of its default."""
+    return kind, depth, text, position, size, note, precision, scale, default
 
 
 def encode(ds):
@@ -179,11 +199,13 @@ def encode(ds):
     for k, rows in enumerate(ds):
         if k < 32:
             struct.pack_into("<H", mem, 2 + 2 * k, len(rows))
-        for kind, depth, text, position, size, note, precision, scale in rows:
+        for kind, depth, text, position, size, note, precision, scale, default in rows:
             # a length above 255, which no row has, runs into the byte behind it
-            struct.pack_into("<BBHHHHQQQ", mem, ROWS + ROW * i, NUMBERS[kind], note, depth, position, len(text), end, size, precision, scale)
-            mem[STRINGS + end:STRINGS + end + len(text)] = text
-            i, end = i + 1, end + len(text)
+            lengths = len(text) + 256 * len(default)
+            struct.pack_into("<BBHHHHQQQ", mem, ROWS + ROW * i, NUMBERS[kind], note, depth, position, lengths, end, size, precision, scale)
+            both = text + default
+            mem[STRINGS + end:STRINGS + end + len(both)] = both
+            i, end = i + 1, end + len(both)
     return mem
 
 
@@ -432,6 +454,143 @@ def alike_lines():
     return commands, ["".join(line), damaged(mem, at, 3)]
 
 
+# ---- defaults: request A6
+
+def held(name, default, position=9, depth=1):
+    """A field's row with a default."""
+    return R("field", depth, name, size=position, default=default)
+
+
+def of_type(default, *rows, before=(), position=9):
+    """A record with one field, whose default and type are given."""
+    return list(before) + [[REC, held(b"a", default, position)] + [R(k, 2 + d, *more) for d, k, *more in rows]]
+
+
+def default_sets():
+    """Sets with their verdicts, worked out by hand."""
+    I, S, B = (0, "int"), (0, "string"), (0, "bytes")
+    ENUM, FIXED = [R("enum", 0, b"E"), R("alias", 1, b"Q"), R("symbol", 1, b"A"), R("symbol", 1, b"BC")], [R("fixed", 0, b"F", size=2)]
+    yield "a default", of_type(b"5", I), True
+    yield "a default that does not fit", of_type(b'"none"', I), False
+    for p, good in ((0, True), (1, True), (255, True), (32767, True), (32768, False), (65536, False), (65545, False), (2 ** 32, False), (2 ** 63, False), (HIGH, False)):
+        yield "a default at position %d" % p, of_type(b"5", I, position=p), good
+    for p in (1, 9, 32767, 32768, HIGH):
+        yield "no default, and position %d" % p, of_type(b"", I, position=p), False
+    yield "no default", of_type(b"", I, position=0), True
+    # one value, nothing around it
+    for c in b" \t\r\n":
+        yield "white space %d before" % c, of_type(bytes([c]) + b"5", I), False
+        yield "white space %d behind" % c, of_type(b"5" + bytes([c]), I), False
+        yield "white space %d inside" % c, of_type(b"[" + bytes([c]) + b"5" + bytes([c]) + b"]", (0, "array"), (1, "int")), True
+        yield "white space %d alone" % c, of_type(bytes([c]), I), False
+    for t in (b"\x0b5", b"5\x0c", b"\xc2\xa05", b"\xef\xbb\xbf5", b"\0", b"5\0", b"5,", b"5 5", b"55 ", b"05", b"+5", b"5.", b"-", b"--5", b"x", b"nul", b"[5", b"5]", b"'5'", b'"5', b"5//"):
+        yield "no value %s" % t.hex(), of_type(t, I), False
+    for t, good in ((b'""', True), (b'"\xc3\xa9"', True), (b'"\xc3"', False), (b'"\xff"', False), (b'"\xc0\x80"', False), (b'"\xed\xa0\x80"', False), (b'"\xf4\x90\x80\x80"', False), (b'"\xf4\x8f\xbf\xbf"', True), (b'"\n"', False), (b'"\\n"', True), (b'"\x7f"', True), (b'"\x1f"', False),
+                    (b'"\\ud800"', False), (b'"\\udc00\\ud800"', False), (b'"\\ud83d\\ude00"', True), (b'"\\x"', False), (b'"\\u00g0"', False), (b'"\\u00e"', False), (b'"a" ', False), (b'"a""', False), (b'"' + b"x" * 253 + b'"', True), (b'"' + b"\\u0041" * 42 + b'x"', True), (b'"' + b"x" * 254, False)):
+        yield "a string of %d bytes, %s to %s" % (len(t), t[:12].hex(), t[-1:].hex()), of_type(t, S), good
+    # nesting
+    for n, inside, good in ((1, b"", True), (63, b"", True), (64, b"", True), (65, b"", False), (64, b"5", True), (64, b"null", False), (65, b"5", False), (100, b"", False)):
+        yield "%d brackets around %s" % (n, inside.decode()), of_type(b"[" * n + inside + b"]" * n, *[(i, "array") for i in range(n)], (n, "int")), good
+    maps = b"".join(b'{"":' if i % 3 == 0 else b"[" for i in range(64))
+    shut = b"".join(b"}" if i % 3 == 0 else b"]" for i in reversed(range(64)))
+    yield "64 brackets of two kinds", of_type(maps + b"7" + shut, *[(i, "map" if i % 3 == 0 else "array") for i in range(64)], (64, "int")), True
+    yield "65 brackets of two kinds", of_type(maps + b"[7]" + shut, *[(i, "map" if i % 3 == 0 else "array") for i in range(64)], (64, "array"), (65, "int")), False
+    # only fields have one
+    for kind in sorted(NUMBERS):
+        rows = [R("record", 0, b"R"), R("alias", 1, b"Q"), R("field", 1, b"x"), R("field alias", 2, b"y"), R("union", 2), R("null", 3), R("boolean", 3), R("int", 3), R("long", 3), R("float", 3), R("double", 3), R("bytes", 3), R("string", 3),
+                R("reference", 3, b"R"), R("array", 3), R("map", 4), R("enum", 5, b"E"), R("symbol", 6, b"A"), R("fixed", 3, b"F", size=4)]
+        i = [r[0] for r in rows].index(kind)
+        r = rows[i]
+        yield "a default of a row of kind %s" % kind, [rows[:i] + [R(r[0], r[1], r[2], r[3], r[4], default=b"null")] + rows[i + 1:]], kind == "field"
+        yield "a default of a row of kind %s, with a position" % kind, [rows[:i] + [R(r[0], r[1], r[2], r[3], 4, default=b"null")] + rows[i + 1:]], kind == "field"
+    # what fits
+    for rows, good, bad in (
+            ([(0, "null")], [b"null"], [b"0", b'"null"', b"false", b"[]", b"{}"]), ([(0, "boolean")], [b"true", b"false"], [b"null", b"0", b'"true"']),
+            ([I], [b"2147483647", b"-2147483648", b"-0"], [b"2147483648", b"-2147483649", b"1.0", b"1e2", b"1E2", b"9" * 250, b"null"]),
+            ([(0, "long")], [b"9223372036854775807", b"-9223372036854775808", b"2147483648"], [b"9223372036854775808", b"-9223372036854775809", b"0.0", b"18446744073709551617", b"1" * 255]),
+            ([(0, "float")], [b"0", b"1e999", b"1.5", b"9" * 250], [b'"NaN"', b"null"]), ([(0, "double")], [b"-0", b"-1E-999", b"1" * 255], [b'"INF"', b"true"]),
+            ([B], [b'""', b'"\xc3\xbf"', b'"\\u00ff"', b'"\\u0000"'], [b'"\xc4\x80"', b'"\\u0100"', b'"\\ud83d\\ude00"', b"0"]), ([S], [b'""', b'"\xc4\x80"', b'"\\ud83d\\ude00"'], [b"null", b"[]"]),
+            ([(0, "fixed", b"F", 0, 1)], [b'"a"', b'"\xc3\xa9"', b'"\\u00e9"'], [b'""', b'"ab"', b'"\xd0\x96"', b"1"]), ([(0, "fixed", b"F", 0, 0)], [b'""'], [b'"a"', b"null"]), ([(0, "fixed", b"F", 0, HIGH)], [], [b'""', b'"a"']), ([(0, "fixed", b"F", 0, 257)], [], [b'"a"']),
+            ([(0, "fixed", b"F", 0, 253)], [b'"' + b"x" * 253 + b'"'], [b'"' + b"x" * 252 + b'"']),
+            ([(0, "enum", b"E"), (1, "alias", b"Q"), (1, "symbol", b"A"), (1, "symbol", b"BC")], [b'"A"', b'"BC"', b'"\\u0042C"'], [b'"B"', b'"Q"', b'"E"', b'""', b"0", b'"a"']), ([(0, "enum", b"E")], [], [b'""', b"null"]),
+            ([(0, "array"), (1, "int")], [b"[]", b"[1,2]"], [b'["x"]', b"{}", b"[1,null]", b"1"]), ([(0, "map"), (1, "int")], [b"{}", b'{"k":"x","k":1}', b'{"k":"x","\\u006b":1}'], [b"[]", b'{"k":1,"k":"x"}', b'{"k":"x","K":1}']),
+            ([(0, "union")], [], [b"null", b"[]", b'""']), ([(0, "union"), (1, "null"), (1, "string")], [b"null", b'"x"'], [b"1", b'{"string":"x"}']), ([(0, "union"), (1, "int"), (1, "long")], [b"2147483648"], [b"9223372036854775808"]),
+            ([(0, "record", b"S"), (1, "field", b"x"), (2, "field alias", b"w"), (2, "int")], [b'{"x":1}', b'{"x":"s","x":1}', b'{"w":[],"x":1,"z":null}'], [b"{}", b'{"w":1}', b'{"x":1,"x":"s"}', b"[]", b"null"]),
+            ([(0, "record", b"S")], [b"{}", b'{"a":1}'], [b"[]", b"null"])):
+        for v in good:
+            yield "%s takes %s" % (rows, v), of_type(v, *rows), True
+        for v in bad:
+            yield "%s does not take %s" % (rows, v), of_type(v, *rows), False
+    inner = [(0, "record", b"S"), (1, "field", b"x", 0, 4, 0, 0, 0, b"7"), (2, "int"), (1, "field", b"y"), (2, "string")]
+    for v, good in ((b'{"y":""}', True), (b'{"y":"","x":1}', True), (b'{"y":"","x":null}', False), (b'{"x":1}', False), (b"{}", False)):
+        yield "a record whose first field has a default, %s" % v, of_type(v, *inner), good
+    yield "an inner default that does not fit", of_type(b'{"y":""}', *[r if len(r) < 9 else r[:8] + (b"true",) for r in inner]), False
+    yield "an inner default that does not fit, the outer field has none", [[REC, fld(b"a")] + [R(k, 2 + d, *more) for d, k, *more in [r if len(r) < 9 else r[:8] + (b"true",) for r in inner]]], False
+    # references
+    for v, good in ((b'"A"', True), (b'"BC"', True), (b'"C"', False)):
+        yield "an enum of another declaration, %s" % v, of_type(v, (0, "reference", b"E"), before=[ENUM]), good
+        yield "an enum in the same declaration, %s" % v, [[REC, fld(b"e")] + [R(k, d + 2, t) for k, d, t, *_ in ENUM] + [held(b"a", v), R("reference", 2, b"E")]], good
+    for v, good in ((b'"ab"', True), (b'"a"', False), (b'"\xc3\xa9"', False)):
+        yield "a fixed of another declaration, %s" % v, of_type(v, (0, "reference", b"F"), before=[ENUM, FIXED]), good
+    for v, good in ((b"{}", True), (b'{"a":{}}', True), (b'{"a":{"a":null}}', False), (b"null", False)):
+        yield "a record that refers to itself, %s" % v, of_type(v, (0, "reference", b"R")), good
+    for v, good in ((b"null", True), (b"{}", True), (b'{"a":null}', True), (b'{"a":{"a":{"a":null}}}', True), (b'{"a":{"a":{"a":1}}}', False), (b'{"a":' * 41 + b"null" + b"}" * 41, True), (b'{"a":' * 41 + b"1" + b"}" * 41, False)):
+        yield "null or itself, %s %d" % (v[:20], len(v)), of_type(v, (0, "union"), (1, "null"), (1, "reference", b"R")), good
+    for v, good in ((b'{"b":1}', True), (b"{}", False), (b'{"b":"x"}', False)):
+        yield "an open record with a field behind, %s" % v, [of_type(v, (0, "reference", b"R"))[0] + [fld(b"b"), INT2]], good
+        yield "an open record with a field behind that has a default, %s" % v, [of_type(v, (0, "reference", b"R"))[0] + [held(b"b", b"0"), INT2]], v != b'{"b":"x"}'
+    yield "a reference to a later declaration", of_type(b'"A"', (0, "reference", b"E")) + [ENUM], False
+    yield "an unknown reference", of_type(b"null", (0, "union"), (1, "null"), (1, "reference", b"E")), False
+    # several
+    yield "the second of two does not fit", [[REC, held(b"a", b"1"), INT2, held(b"b", b'"x"'), INT2]], False
+    yield "the default of the last declaration does not fit", [ENUM, FIXED] + of_type(b"1", I) + [[R("record", 0, b"T"), held(b"a", b"1.5"), INT2]], False
+    yield "defaults in two declarations", [ENUM, FIXED] + of_type(b"1", I) + [[R("record", 0, b"T"), held(b"a", b"15"), INT2]], True
+    # 16,384 string bytes: 1 + 63 of 258, one of 129
+    names = [b"f%02d" % i for i in range(64)]
+    many = [r for n in names[:63] for r in (held(n, b'"' + b"x" * 253 + b'"'), R("string", 2))]
+    yield "16,384 string bytes by defaults", [[REC] + many + [held(names[63], b'"' + b"x" * 124 + b'"'), R("string", 2)]], True
+
+
+# a good set: defaults of many kinds, in two declarations
+DEFAULTS_SET = [
+    [R("record", 0, b"a.S", 26), held(b"x", b"10", 60), R("int", 2, b"", 50), R("field", 1, b"y", 70, 80, default=b'"\\u0041"'), R("field alias", 2, b"v", 75), R("union", 2), R("null", 3), R("enum", 3, b"a.E"), R("symbol", 4, b"A"), R("symbol", 4, b"B")],
+    [R("record", 0, b"R", 9), held(b"s", b'[{"x":1},{"y":null}]', 300), R("array", 2), R("reference", 3, b"a.S"), held(b"f", b'"\xc3\xa9\\n"', 513), R("fixed", 2, b"F", size=2), held(b"r", b"{}", 0), R("union", 2), R("null", 3), R("reference", 3, b"R"),
+     held(b"d", b"-0.5e1", 32767), R("float", 2)]]
+
+
+def default_lines():
+    """Commands, printed lines."""
+    commands, printed, line = [], [], []
+    sets = list(default_sets())
+    assert len({n for n, _, _ in sets}) == len(sets)
+    for k, (name, ds, want) in enumerate(sets):
+        mem = encode(ds)
+        assert len(mem) == LENGTH and well_formed(mem) == want, name
+        commands += ["c"] + store(mem) + ["j%04x" % LENGTH]
+        line.append("%d" % want)
+        if k == len(sets) - 1:
+            # the last set is full: its last default can take no byte more
+            at = ROWS + ROW * (sum(len(d) for d in ds) - 2) + 7
+            for more, good in ((1, False), (2, False), (0, True)):
+                mem[at] = 126 + more
+                assert well_formed(mem) == good
+                commands += ["s%04x%02x" % (at, 126 + more), "j%04x" % LENGTH]
+                line.append("%d" % good)
+        if k % 32 == 31 or k == len(sets) - 1:
+            commands.append("n")
+            printed.append("".join(line))
+            line = []
+    mem = encode(DEFAULTS_SET)
+    assert well_formed(mem)
+    commands += ["c"] + store(mem)
+    rows = sum(len(d) for d in DEFAULTS_SET)
+    text = sum(len(r[2]) + len(r[8]) for d in DEFAULTS_SET for r in d)
+    for at, n in [(ROWS + ROW * i, ROW) for i in range(rows)] + [(STRINGS + i, min(50, text + 2 - i)) for i in range(0, text + 2, 50)]:
+        commands.append("d%04x%04x" % (at, n))
+        printed.append(damaged(mem, at, n))
+    return commands, printed
+
+
 def damaged(mem, at, n):
     """The verdicts of the command d."""
     out = []
@@ -467,7 +626,7 @@ def main(which):
     for at, n in ranges:
         commands.append("d%04x%04x" % (at, n))
         printed.append(damaged(mem, at, n))
-    for lines in (decimals(), alike_lines()):
+    for lines in (decimals(), alike_lines(), default_lines()):
         for whole, more in zip((commands, printed), lines):
             whole += more
     lines = commands if which == "stdin" else printed
@@ -478,5 +637,7 @@ if __name__ == "__main__":
     if sys.argv[1] == "cases":
         for name, ds in CASES:
             print(int(well_formed(encode(ds))), name)
+        for name, ds, want in default_sets():
+            print(int(want), name)
     else:
         main(sys.argv[1])

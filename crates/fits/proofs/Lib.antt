@@ -1,4 +1,5 @@
 mod RowLaws
 mod TableLaws
+mod DefinitionLaws
 mod FitLaws
 pub mod MisfitLaws

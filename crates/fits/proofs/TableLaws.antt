@@ -112,7 +112,7 @@ mark-verdict f g false false h = refl
 
 -- ---- a table that is true
 
-zeros : (n i : ℕ) → _≡_ {A = ℕ} (getD (replicate n 0) i 0) 0
+pub zeros : (n i : ℕ) → _≡_ {A = ℕ} (getD (replicate n 0) i 0) 0
 zeros n i = go (decLt i n)
   where
     go : Dec (i < n) → _≡_ {A = ℕ} (getD (replicate n 0) i 0) 0
@@ -120,7 +120,7 @@ zeros n i = go (decLt i n)
     go (no l) = List·getD-eq-default (replicate n 0) 0 (subst (λ (x : ℕ). x ≤ i) (sym (length-replicate {A = ℕ} n 0)) (omega arith))
 
 -- what stands at a place after a store, where it is not nothing
-set-holds : (t : List ℕ) (i v x : ℕ) → (x ≡ 0 → ⊥) → getD (set t i v) i 0 ≡ x → v ≡ x
+pub set-holds : (t : List ℕ) (i v x : ℕ) → (x ≡ 0 → ⊥) → getD (set t i v) i 0 ≡ x → v ≡ x
 set-holds t i v x some h = go (decLt i (length t))
   where
     go : Dec (i < length t) → v ≡ x

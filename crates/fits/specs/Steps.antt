@@ -1,6 +1,6 @@
--- What the code holds on the way: types by the numbers of their rows in memory, and a table of verdicts.
+-- What the code holds on the way: types by the numbers of their rows in memory, a table of verdicts, and one of definitions.
 -- Assumes nothing.
-use Prim.Native.Nat.{ℕ, _+_, _-_, _*_}
+use Prim.Native.Nat.{ℕ, suc, _+_, _-_, _*_}
 use mathlib.Core.Path.{_≡_}
 use mathlib.Core.Bool.{Bool, true, false, cond, _&&_, _||_}
 use mathlib.Core.List.{List, [], _∷_}
@@ -8,9 +8,11 @@ use lib.Dec.{ltb}
 use lib.ListN.{getD, set}
 use Rattle.row.specs.Rows.{Row}
 use Rattle.row.specs.Sets.{rowsFrom}
+use Rattle.row.specs.Memory.{textAt}
 use Rattle.row.specs.declared.kind.Kind.{Kind}
 use Rattle.row.specs.declared.kind.Kind.the-variants.{Array, Map, Record}
 use Rattle.resolve.specs.Kinds.{isKind}
+use Rattle.resolve.specs.Resolve.{definitionIn}
 use Rattle.fits.specs.Types.{partsUnder}
 use Rattle.fits.specs.Fits.{plainFits, fits}
 
@@ -54,3 +56,9 @@ noted n table r p v = cond (isKept n r p) (set table (p * n + r) v) table
 -- each verdict that the table holds is true
 pub record Verdicts (m : List ℕ) (n : ℕ) (t table : List ℕ) : Type 0 where
   pub says : (left r p : ℕ) (b : Bool) → entryAt n table r p ≡ mark left b → plainFits t (fitting m n t left) (typeAt m n r) p ≡ b
+
+-- ---- definitions: which row defines what row i refers to?
+
+-- an entry is 0, or 1 + that row; each definition that the table holds is the one
+pub record Found (m : List ℕ) (n : ℕ) (found : List ℕ) : Type 0 where
+  pub says : (i d : ℕ) → getD found i 0 ≡ suc d → typeAt m n d ≡ definitionIn (textAt m i) (rowsFrom m n 0)

@@ -1,5 +1,6 @@
 // A value and a type, walked together. What is inside a value is answered by the same functions; a verdict that was found is
-// noted, and none is sought twice.
+// noted, and none is sought twice; the same for the definition that a reference stands for.
+use crate::definitions::definition;
 use crate::leaves::leaf;
 use crate::rows::has_default;
 use crate::rows::is_nested;
@@ -7,7 +8,6 @@ use crate::rows::next_part;
 use crate::rows::type_row;
 use crate::table::asked;
 use crate::table::note;
-use resolve::definition_of;
 use resolve::is_kind;
 use row::Kind;
 use row::read::depth_at;
@@ -39,7 +39,7 @@ ghost use Rattle.values.specs.Values.{isArray, isObject};
 ghost use Rattle.resolve.specs.Rules.{some};
 ghost use Rattle.fits.specs.Types.{partsUnder};
 ghost use Rattle.fits.specs.Fits.{memberFits, fieldFits, plainFits, oneFits, anyFits};
-ghost use Rattle.fits.specs.Steps.{isNested, typeAt, fitting, Verdicts};
+ghost use Rattle.fits.specs.Steps.{isNested, typeAt, fitting, Verdicts, Found};
 
 // An array, each of whose elements fits the type at a row.
 fn array(
@@ -48,13 +48,14 @@ fn array(
     text: &[u8],
     ends: &[u16],
     verdicts: &mut [u8],
+    found: &mut [u16],
     left: usize,
     items: usize,
     at: usize,
 ) -> bool
-    requires { ⌜ (length (now mem) ≡ layoutLength) × (n ≤ rowLimit) × Known (now text) (now ends) × Verdicts (now mem) n (now text) (now verdicts) × (left ≤ deepest) ⌝ }
+    requires { ⌜ (length (now mem) ≡ layoutLength) × (n ≤ rowLimit) × Known (now text) (now ends) × Verdicts (now mem) n (now text) (now verdicts) × Found (now mem) n (now found) × (left ≤ deepest) ⌝ }
     ensures { λ r. ⌜ (r ≡ (isArray (now (text .entry)) at && every (fitting (now (mem .entry)) n (now (text .entry)) left (typeAt (now (mem .entry)) n items)) (elements (now (text .entry)) at)))
-        × Verdicts (now (mem .entry)) n (now (text .entry)) (now (verdicts .exit)) ⌝ }
+        × Verdicts (now (mem .entry)) n (now (text .entry)) (now (verdicts .exit)) × Found (now (mem .entry)) n (now (found .exit)) ⌝ }
 {
     if !is_array(text, at) {
         return false;
@@ -64,7 +65,7 @@ fn array(
         let Spot::At(p) = spot else {
             return true;
         };
-        if !fits_at(mem, n, text, ends, verdicts, left, items, p) {
+        if !fits_at(mem, n, text, ends, verdicts, found, left, items, p) {
             return false;
         }
         spot = next_element(text, ends, p);
@@ -78,13 +79,14 @@ fn map(
     text: &[u8],
     ends: &[u16],
     verdicts: &mut [u8],
+    found: &mut [u16],
     left: usize,
     values: usize,
     at: usize,
 ) -> bool
-    requires { ⌜ (length (now mem) ≡ layoutLength) × (n ≤ rowLimit) × Known (now text) (now ends) × Verdicts (now mem) n (now text) (now verdicts) × (left ≤ deepest) ⌝ }
+    requires { ⌜ (length (now mem) ≡ layoutLength) × (n ≤ rowLimit) × Known (now text) (now ends) × Verdicts (now mem) n (now text) (now verdicts) × Found (now mem) n (now found) × (left ≤ deepest) ⌝ }
     ensures { λ r. ⌜ (r ≡ (isObject (now (text .entry)) at && every (memberFits (now (text .entry)) (fitting (now (mem .entry)) n (now (text .entry)) left) (typeAt (now (mem .entry)) n values) at) (membersAt (now (text .entry)) at)))
-        × Verdicts (now (mem .entry)) n (now (text .entry)) (now (verdicts .exit)) ⌝ }
+        × Verdicts (now (mem .entry)) n (now (text .entry)) (now (verdicts .exit)) × Found (now (mem .entry)) n (now (found .exit)) ⌝ }
 {
     if !is_object(text, at) {
         return false;
@@ -97,7 +99,7 @@ fn map(
         let Spot::At(v) = under_key(text, ends, at, key) else {
             return false;
         };
-        if !fits_at(mem, n, text, ends, verdicts, left, values, v) {
+        if !fits_at(mem, n, text, ends, verdicts, found, left, values, v) {
             return false;
         }
         entry = next_member(text, ends, value);
@@ -111,13 +113,14 @@ fn field(
     text: &[u8],
     ends: &[u16],
     verdicts: &mut [u8],
+    found: &mut [u16],
     left: usize,
     row: usize,
     at: usize,
 ) -> bool
-    requires { ⌜ (length (now mem) ≡ layoutLength) × (n ≤ rowLimit) × Known (now text) (now ends) × Verdicts (now mem) n (now text) (now verdicts) × (left ≤ deepest) × (row < n) ⌝ }
+    requires { ⌜ (length (now mem) ≡ layoutLength) × (n ≤ rowLimit) × Known (now text) (now ends) × Verdicts (now mem) n (now text) (now verdicts) × Found (now mem) n (now found) × (left ≤ deepest) × (row < n) ⌝ }
     ensures { λ r. ⌜ (r ≡ fieldFits (now (text .entry)) (fitting (now (mem .entry)) n (now (text .entry)) left) at (typeAt (now (mem .entry)) n row))
-        × Verdicts (now (mem .entry)) n (now (text .entry)) (now (verdicts .exit)) ⌝ }
+        × Verdicts (now (mem .entry)) n (now (text .entry)) (now (verdicts .exit)) × Found (now (mem .entry)) n (now (found .exit)) ⌝ }
 {
     if !is_kind(Kind::Field, kind_number(mem, row)) {
         return true;
@@ -126,7 +129,7 @@ fn field(
         return has_default(mem, row);
     };
     let own = type_row(mem, n, row + 1);
-    fits_at(mem, n, text, ends, verdicts, left, own, v)
+    fits_at(mem, n, text, ends, verdicts, found, left, own, v)
 }
 
 // An object that fits each field of the record at a row.
@@ -136,13 +139,14 @@ fn record_of(
     text: &[u8],
     ends: &[u16],
     verdicts: &mut [u8],
+    found: &mut [u16],
     left: usize,
     row: usize,
     at: usize,
 ) -> bool
-    requires { ⌜ (length (now mem) ≡ layoutLength) × (n ≤ rowLimit) × Known (now text) (now ends) × Verdicts (now mem) n (now text) (now verdicts) × (left ≤ deepest) × (row < n) ⌝ }
+    requires { ⌜ (length (now mem) ≡ layoutLength) × (n ≤ rowLimit) × Known (now text) (now ends) × Verdicts (now mem) n (now text) (now verdicts) × Found (now mem) n (now found) × (left ≤ deepest) × (row < n) ⌝ }
     ensures { λ r. ⌜ (r ≡ (isObject (now (text .entry)) at && every (fieldFits (now (text .entry)) (fitting (now (mem .entry)) n (now (text .entry)) left) at) (partsUnder (entryAt (now (mem .entry)) row .depth) (typeAt (now (mem .entry)) n (row + 1)))))
-        × Verdicts (now (mem .entry)) n (now (text .entry)) (now (verdicts .exit)) ⌝ }
+        × Verdicts (now (mem .entry)) n (now (text .entry)) (now (verdicts .exit)) × Found (now (mem .entry)) n (now (found .exit)) ⌝ }
 {
     if !is_object(text, at) {
         return false;
@@ -150,7 +154,7 @@ fn record_of(
     let depth = depth_at(mem, row);
     let mut i = next_part(mem, n, row + 1, depth);
     while i < n {
-        if !field(mem, n, text, ends, verdicts, left, i, at) {
+        if !field(mem, n, text, ends, verdicts, found, left, i, at) {
             return false;
         }
         i = next_part(mem, n, i + 1, depth);
@@ -165,22 +169,23 @@ fn nested(
     text: &[u8],
     ends: &[u16],
     verdicts: &mut [u8],
+    found: &mut [u16],
     left: usize,
     row: usize,
     at: usize,
 ) -> bool
-    requires { ⌜ (length (now mem) ≡ layoutLength) × (n ≤ rowLimit) × Known (now text) (now ends) × Verdicts (now mem) n (now text) (now verdicts) × (left ≤ deepest) × (row < n) × (isNested (entryAt (now mem) row .kind) ≡ true) ⌝ }
+    requires { ⌜ (length (now mem) ≡ layoutLength) × (n ≤ rowLimit) × Known (now text) (now ends) × Verdicts (now mem) n (now text) (now verdicts) × Found (now mem) n (now found) × (left ≤ deepest) × (row < n) × (isNested (entryAt (now mem) row .kind) ≡ true) ⌝ }
     ensures { λ r. ⌜ (r ≡ plainFits (now (text .entry)) (fitting (now (mem .entry)) n (now (text .entry)) left) (typeAt (now (mem .entry)) n row) at)
-        × Verdicts (now (mem .entry)) n (now (text .entry)) (now (verdicts .exit)) ⌝ }
+        × Verdicts (now (mem .entry)) n (now (text .entry)) (now (verdicts .exit)) × Found (now (mem .entry)) n (now (found .exit)) ⌝ }
 {
     let kind = kind_number(mem, row);
     if is_kind(Kind::Array, kind) {
-        return array(mem, n, text, ends, verdicts, left, row + 1, at);
+        return array(mem, n, text, ends, verdicts, found, left, row + 1, at);
     }
     if is_kind(Kind::Map, kind) {
-        return map(mem, n, text, ends, verdicts, left, row + 1, at);
+        return map(mem, n, text, ends, verdicts, found, left, row + 1, at);
     }
-    record_of(mem, n, text, ends, verdicts, left, row, at)
+    record_of(mem, n, text, ends, verdicts, found, left, row, at)
 }
 
 // A type that is no union and no reference. Where there are values inside, the table is asked first, and told.
@@ -190,13 +195,14 @@ fn plain(
     text: &[u8],
     ends: &[u16],
     verdicts: &mut [u8],
+    found: &mut [u16],
     left: usize,
     row: usize,
     at: usize,
 ) -> bool
-    requires { ⌜ (length (now mem) ≡ layoutLength) × (n ≤ rowLimit) × Known (now text) (now ends) × Verdicts (now mem) n (now text) (now verdicts) × (left ≤ deepest) ⌝ }
+    requires { ⌜ (length (now mem) ≡ layoutLength) × (n ≤ rowLimit) × Known (now text) (now ends) × Verdicts (now mem) n (now text) (now verdicts) × Found (now mem) n (now found) × (left ≤ deepest) ⌝ }
     ensures { λ r. ⌜ (r ≡ plainFits (now (text .entry)) (fitting (now (mem .entry)) n (now (text .entry)) left) (typeAt (now (mem .entry)) n row) at)
-        × Verdicts (now (mem .entry)) n (now (text .entry)) (now (verdicts .exit)) ⌝ }
+        × Verdicts (now (mem .entry)) n (now (text .entry)) (now (verdicts .exit)) × Found (now (mem .entry)) n (now (found .exit)) ⌝ }
 {
     if n <= row {
         return false;
@@ -213,7 +219,7 @@ fn plain(
     if held == yes {
         return true;
     }
-    if nested(mem, n, text, ends, verdicts, left, row, at) {
+    if nested(mem, n, text, ends, verdicts, found, left, row, at) {
         note(verdicts, n, row, at, yes);
         return true;
     }
@@ -228,19 +234,20 @@ fn one(
     text: &[u8],
     ends: &[u16],
     verdicts: &mut [u8],
+    found: &mut [u16],
     left: usize,
     row: usize,
     at: usize,
 ) -> bool
-    requires { ⌜ (length (now mem) ≡ layoutLength) × (n ≤ rowLimit) × Known (now text) (now ends) × Verdicts (now mem) n (now text) (now verdicts) × (left ≤ deepest) × (row < n) ⌝ }
+    requires { ⌜ (length (now mem) ≡ layoutLength) × (n ≤ rowLimit) × Known (now text) (now ends) × Verdicts (now mem) n (now text) (now verdicts) × Found (now mem) n (now found) × (left ≤ deepest) × (row < n) ⌝ }
     ensures { λ r. ⌜ (r ≡ oneFits (rowsFrom (now (mem .entry)) n 0) (now (text .entry)) (fitting (now (mem .entry)) n (now (text .entry)) left) at (typeAt (now (mem .entry)) n row))
-        × Verdicts (now (mem .entry)) n (now (text .entry)) (now (verdicts .exit)) ⌝ }
+        × Verdicts (now (mem .entry)) n (now (text .entry)) (now (verdicts .exit)) × Found (now (mem .entry)) n (now (found .exit)) ⌝ }
 {
     if is_kind(Kind::Reference, kind_number(mem, row)) {
-        let definition = definition_of(mem, n, row);
-        return plain(mem, n, text, ends, verdicts, left, definition, at);
+        let defined = definition(mem, n, found, row);
+        return plain(mem, n, text, ends, verdicts, found, left, defined, at);
     }
-    plain(mem, n, text, ends, verdicts, left, row, at)
+    plain(mem, n, text, ends, verdicts, found, left, row, at)
 }
 
 // Some member of the union at a row.
@@ -250,18 +257,19 @@ fn some_one(
     text: &[u8],
     ends: &[u16],
     verdicts: &mut [u8],
+    found: &mut [u16],
     left: usize,
     row: usize,
     at: usize,
 ) -> bool
-    requires { ⌜ (length (now mem) ≡ layoutLength) × (n ≤ rowLimit) × Known (now text) (now ends) × Verdicts (now mem) n (now text) (now verdicts) × (left ≤ deepest) × (row < n) ⌝ }
+    requires { ⌜ (length (now mem) ≡ layoutLength) × (n ≤ rowLimit) × Known (now text) (now ends) × Verdicts (now mem) n (now text) (now verdicts) × Found (now mem) n (now found) × (left ≤ deepest) × (row < n) ⌝ }
     ensures { λ r. ⌜ (r ≡ some (oneFits (rowsFrom (now (mem .entry)) n 0) (now (text .entry)) (fitting (now (mem .entry)) n (now (text .entry)) left) at) (partsUnder (entryAt (now (mem .entry)) row .depth) (typeAt (now (mem .entry)) n (row + 1))))
-        × Verdicts (now (mem .entry)) n (now (text .entry)) (now (verdicts .exit)) ⌝ }
+        × Verdicts (now (mem .entry)) n (now (text .entry)) (now (verdicts .exit)) × Found (now (mem .entry)) n (now (found .exit)) ⌝ }
 {
     let depth = depth_at(mem, row);
     let mut m = next_part(mem, n, row + 1, depth);
     while m < n {
-        if one(mem, n, text, ends, verdicts, left, m, at) {
+        if one(mem, n, text, ends, verdicts, found, left, m, at) {
             return true;
         }
         m = next_part(mem, n, m + 1, depth);
@@ -276,21 +284,22 @@ fn any(
     text: &[u8],
     ends: &[u16],
     verdicts: &mut [u8],
+    found: &mut [u16],
     left: usize,
     row: usize,
     at: usize,
 ) -> bool
-    requires { ⌜ (length (now mem) ≡ layoutLength) × (n ≤ rowLimit) × Known (now text) (now ends) × Verdicts (now mem) n (now text) (now verdicts) × (left ≤ deepest) ⌝ }
+    requires { ⌜ (length (now mem) ≡ layoutLength) × (n ≤ rowLimit) × Known (now text) (now ends) × Verdicts (now mem) n (now text) (now verdicts) × Found (now mem) n (now found) × (left ≤ deepest) ⌝ }
     ensures { λ r. ⌜ (r ≡ anyFits (rowsFrom (now (mem .entry)) n 0) (now (text .entry)) (fitting (now (mem .entry)) n (now (text .entry)) left) (typeAt (now (mem .entry)) n row) at)
-        × Verdicts (now (mem .entry)) n (now (text .entry)) (now (verdicts .exit)) ⌝ }
+        × Verdicts (now (mem .entry)) n (now (text .entry)) (now (verdicts .exit)) × Found (now (mem .entry)) n (now (found .exit)) ⌝ }
 {
     if n <= row {
         return false;
     }
     if is_kind(Kind::Union, kind_number(mem, row)) {
-        return some_one(mem, n, text, ends, verdicts, left, row, at);
+        return some_one(mem, n, text, ends, verdicts, found, left, row, at);
     }
-    one(mem, n, text, ends, verdicts, left, row, at)
+    one(mem, n, text, ends, verdicts, found, left, row, at)
 }
 
 // Does the value at `at` fit the type at a row, with so much nesting left?
@@ -300,16 +309,17 @@ pub fn fits_at(
     text: &[u8],
     ends: &[u16],
     verdicts: &mut [u8],
+    found: &mut [u16],
     left: usize,
     row: usize,
     at: usize,
 ) -> bool
-    requires { ⌜ (length (now mem) ≡ layoutLength) × (n ≤ rowLimit) × Known (now text) (now ends) × Verdicts (now mem) n (now text) (now verdicts) × (left ≤ deepest + 1) ⌝ }
+    requires { ⌜ (length (now mem) ≡ layoutLength) × (n ≤ rowLimit) × Known (now text) (now ends) × Verdicts (now mem) n (now text) (now verdicts) × Found (now mem) n (now found) × (left ≤ deepest + 1) ⌝ }
     ensures { λ r. ⌜ (r ≡ fitting (now (mem .entry)) n (now (text .entry)) left (typeAt (now (mem .entry)) n row) at)
-        × Verdicts (now (mem .entry)) n (now (text .entry)) (now (verdicts .exit)) ⌝ }
+        × Verdicts (now (mem .entry)) n (now (text .entry)) (now (verdicts .exit)) × Found (now (mem .entry)) n (now (found .exit)) ⌝ }
 {
     if left == 0 {
         return false;
     }
-    any(mem, n, text, ends, verdicts, left - 1, row, at)
+    any(mem, n, text, ends, verdicts, found, left - 1, row, at)
 }

@@ -4,7 +4,7 @@ mod damage;
 mod lines;
 
 fn main() {
-    let mut text = io::large_buffer();
+    let mut text = [0u8; 262144];
     let n = io::read_full(0, &mut text);
     let mut mem = [0u8; 51300];
     lines::run(&text[..n], &mut mem);

@@ -53,7 +53,7 @@ use Rattle.schema.specs.declared.walked.Walked.the-variants.{Read, Bad}
 use Rattle.schema.specs.declared.walked.Defined.{Defined}
 use Rattle.schema.specs.declared.walked.Defined.the-variants as defined
 use Rattle.schema.specs.Out.{Out, refused, read, rowsThen, andThen, after, no, each}
-use Rattle.schema.specs.Schema.{Around, within, row, rowWith, newKind, referenceRows, primitiveRows, wordRows, fieldAliasRows, fieldRow, keptCheck, fieldRows, fieldsRows, recordRows, enumRows, fixedRows, partRows, unionRows, schemaBy, schemaOf, rowsOf, declared}
+use Rattle.schema.specs.Schema.{Around, within, rowWith, newKind, referenceRows, primitiveRows, wordRows, fieldAliasRows, fieldRow, keptCheck, fieldRows, fieldsRows, recordRows, enumRows, fixedRows, partRows, unionRows, schemaBy, schemaOf, rowsOf, declared}
 use Rattle.schema.specs.Did.{Did, Titled, around, primitiveWith, wordWith, headRows, fieldHead, elementRows}
 use Rattle.schema.proofs.Did.{did-bad, did-eq, did-after, did-stop, did-then, did-fault, did-fine, did-titled, did-untitled, titled-front, none-then, rows-then, part-then, after-then}
 use Rattle.schema.proofs.Steps.{objects-done, objects-next}

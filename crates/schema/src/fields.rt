@@ -62,7 +62,7 @@ fn put_field_row(
     put_both(text, ends, row, at, &text[v..stop], draft, counts, word)
 }
 
-// 48: is a default as it is written over the bytes that are kept of a string?
+// 48: as it is written, a default has at most the bytes that are kept of a string.
 fn kept_check(text: &[u8], ends: &[u16], default: Spot) -> Check
     requires { ⌜ InText (now text) default × Known (now text) (now ends) ⌝ }
     ensures { λ r. ⌜ r ≡ keptCheck (now (text .entry)) default ⌝ }

@@ -14,10 +14,14 @@ slice-aggregate-fits-at c = search needs
 
 fits-at-requires : tie.Need-fits-at-requires
 fits-at-requires c κs =
-    (c .before .before .before .before .pre .0, c .before .before .before .before .pre .1, c .before .before .before .before .pre .2, true-zeros _ _ _ 32768, omega arith)
+    (c .before .before .before .before .before .before .pre .0, c .before .before .before .before .before .before .pre .1, c .before .before .before .before .before .before .pre .2, true-zeros _ _ _ 32768, c .before .before .before .before .before .before .pre .3, omega arith)
+
+same-length : tie.Need-same-length
+same-length c = search needs
 
 returns : tie.Need-returns
-returns c = search needs
+returns c =
+    (c .before .before .before .fits-at .ensures .0, c .before .before .before .fits-at .ensures .2)
 
 pub with-middle-spec : {M : Type 1} → statement M
-with-middle-spec = tie.close (tie.spec add-left slice-aggregate-fits-at fits-at-requires returns)
+with-middle-spec = tie.close (tie.spec add-left slice-aggregate-fits-at fits-at-requires same-length returns)

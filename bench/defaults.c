@@ -1,0 +1,123 @@
+/* Defaults: a put of fields with short ones beside a put of the same text in which the key is another, and the slowest defaults that were found: values of up to 255 bytes against
+   records that hold unions of one another. */
+#include <string.h>
+#include "texts.h"
+#include "timing.h"
+#include "sets.h"
+
+extern uint64_t bench_put(uint8_t *memory, size_t length, size_t place, const uint8_t *text, size_t text_length);
+
+static struct set before, work_set;
+static size_t at_place;
+
+static uint64_t put_text(const uint8_t *text, size_t length) {
+    memcpy(work_set.bytes, before.bytes, LENGTH);
+    return bench_put(work_set.bytes, LENGTH, at_place, text, length);
+}
+
+/* ---- short defaults */
+
+static uint8_t with[32768], without[32768];
+static size_t both_length;
+
+static uint64_t put_without(const uint8_t *text, size_t length) {
+    (void)text;
+    return put_text(without, length);
+}
+
+/* A record of n fields of a few types, each with a value under a key of seven letters. */
+static size_t fields(uint8_t *out, int n, const char *key) {
+    static const char *kinds[] = {"\"int\"", "\"string\"", "[\"null\",\"long\"]", "{\"type\":\"array\",\"items\":\"bytes\"}", "\"boolean\""};
+    static const char *values[] = {"0", "\"none\"", "null", "[]", "false"};
+    struct text t = begin(out, sizeof with, RECORD_TEXT);
+    for (int i = 0; i < n; i++) {
+        char field[160];
+        sprintf(field, "%s{\"name\":\"field_%d\",\"type\":%s,\"%s\":%s}", i ? "," : "", i, kinds[i % 5], key, values[i % 5]);
+        put(&t, field, 2);
+    }
+    return finish(&t);
+}
+
+/* ---- slow ones */
+
+/* A record of n records R0, R1 .., each with a field `a` that is a union of all before it and itself, up to k of them, and then fields with a default of the last of them or, in the end, of a
+   record M that takes what they do not. */
+static size_t mutual(uint8_t *out, size_t room, int n, int k, int defaults, const char *value) {
+    struct text t = begin(out, room, "{\"type\":\"record\",\"name\":\"A\",\"fields\":["
+        "{\"name\":\"m\",\"type\":{\"type\":\"record\",\"name\":\"M\",\"fields\":[{\"name\":\"a\",\"type\":[\"int\",\"M\"]}]}},");
+    char piece[400];
+    for (int i = 0; i < n; i++) {
+        sprintf(piece, "{\"name\":\"f%d\",\"type\":{\"type\":\"record\",\"name\":\"R%d\",\"fields\":[{\"name\":\"a\",\"type\":[", i, i);
+        put(&t, piece, 2);
+        int first = i - k + 1 < 0 ? 0 : i - k + 1;
+        for (int j = first; j <= i; j++) {
+            sprintf(piece, "%s\"R%d\"", j > first ? "," : "", j);
+            put(&t, piece, 2);
+        }
+        put(&t, "]}]}},", 2);
+    }
+    for (int i = 0; i < defaults; i++) {
+        sprintf(piece, "%s{\"name\":\"d%d\",\"type\":[\"R%d\",\"M\"],\"default\":%s}", i ? "," : "", i, n - 1, value);
+        put(&t, piece, 2);
+    }
+    return finish(&t);
+}
+
+/* An array of a union of n records, of which the last alone takes an empty object. */
+static size_t listed(uint8_t *out, size_t room, int n, const char *value) {
+    struct text t = begin(out, room, "{\"type\":\"record\",\"name\":\"A\",\"fields\":[");
+    char piece[400];
+    for (int i = 0; i < n; i++) {
+        sprintf(piece, "{\"name\":\"f%d\",\"type\":{\"type\":\"record\",\"name\":\"R%d\",\"fields\":[{\"name\":\"a\",\"type\":\"int\"%s}]}},", i, i, i + 1 < n ? "" : ",\"default\":0");
+        put(&t, piece, 2);
+    }
+    put(&t, "{\"name\":\"d\",\"type\":{\"type\":\"array\",\"items\":[", 2);
+    for (int i = 0; i < n; i++) {
+        sprintf(piece, "%s\"R%d\"", i ? "," : "", i);
+        put(&t, piece, 2);
+    }
+    sprintf(piece, "]},\"default\":%s}", value);
+    put(&t, piece, 2);
+    return finish(&t);
+}
+
+static const char *nested(int levels, const char *inmost) {
+    static char s[400];
+    s[0] = 0;
+    for (int i = 0; i < levels; i++) strcat(s, "{\"a\":");
+    strcat(s, inmost);
+    for (int i = 0; i < levels; i++) strcat(s, "}");
+    return s;
+}
+
+static const char *many(int n, const char *one) {
+    static char s[400];
+    strcpy(s, "[");
+    for (int i = 0; i < n; i++) {
+        if (i) strcat(s, ",");
+        strcat(s, one);
+    }
+    strcat(s, "]");
+    return s;
+}
+
+static void slow(const char *name, size_t length) {
+    double best = 1e18;
+    uint64_t answer = put_text(with, length);
+    for (int round = 0; round < 5; round++) {
+        double t = nanoseconds(put_text, with, length, 1);
+        if (t < best) best = t;
+    }
+    printf("%-66s %6zu bytes  %8.3f ms  %s\n", name, length, best / 1e6, answer ? "accepted" : "refused");
+}
+
+int main(void) {
+    both_length = fields(with, 160, "default");
+    fields(without, 160, "another");
+    compare("160 fields, short defaults; C: no defaults", put_text, put_without, with, both_length);
+    slow("one default: 42 objects in one another, 40 records of unions", mutual(with, sizeof with, 40, 40, 1, nested(42, "1")));
+    slow("one default: 42 objects in one another, 100 records of unions of 5", mutual(with, sizeof with, 100, 5, 1, nested(42, "1")));
+    slow("one default: 84 empty objects, a union of 200 records", listed(with, sizeof with, 200, many(84, "{}")));
+    slow("50 defaults: 42 objects in one another, 34 records of unions", mutual(with, sizeof with, 34, 34, 50, nested(42, "1")));
+    return 0;
+}
