@@ -2,6 +2,7 @@
 use crate::fits;
 use crate::rows::has_default;
 use crate::rows::type_row;
+use answer::Counts;
 use answer::Fault;
 use answer::Why;
 use resolve::Resolution;
@@ -52,7 +53,7 @@ pub fn first_misfit(mem: &[u8], start: usize, n: usize) -> Resolution
     requires { ⌜ (length (now mem) ≡ layoutLength) × (start + n ≤ rowLimit) ⌝ }
     ensures { λ r. ⌜ r ≡ misfitIn (rowsFrom (now (mem .entry)) (start + n) 0) (rowsFrom (now (mem .entry)) n start) ⌝ }
 {
-    let mut found: [u16; 1024] = [0; 1024];
+    let mut found: [u16; Counts::ROWS] = [0; Counts::ROWS];
     let end = start + n;
     let mut i = start;
     while i < end {
