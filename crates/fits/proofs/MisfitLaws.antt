@@ -24,9 +24,6 @@ use Rattle.fits.specs.Steps.{typeAt}
 pub rows-last : (m : List ℕ) (start n : ℕ) → typeAt m (start + n) start ≡ rowsFrom m n start
 rows-last m start n = let e : start + n - start ≡ n = omega arith in ap (λ (k : ℕ). rowsFrom m k start) e
 
-pub rows-first : (m : List ℕ) (n : ℕ) → typeAt m n 0 ≡ rowsFrom m n 0
-rows-first m n = let e : n - 0 ≡ n = omega arith in ap (λ (k : ℕ). rowsFrom m k 0) e
-
 -- ---- a row
 
 module _ (rows rest : List Row) (r : Row) where

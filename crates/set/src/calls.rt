@@ -131,7 +131,7 @@ fn asks_to_fit(draft: &[u8], n: usize) -> bool
     if Counts::ROWS < n {
         return false;
     }
-    has_defaults(draft, n)
+    has_defaults(draft, 0, n)
 }
 
 // The rows of a draft as one declaration more. Rows that have a default are appended to a copy first.
