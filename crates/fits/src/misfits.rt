@@ -48,8 +48,9 @@ fn default_fits(mem: &[u8], n: usize, i: usize, found: &mut [u16]) -> bool
     fits(mem, n, own, default_of(mem, i), found)
 }
 
-// 47 of the n rows from `start` on, the last ones that are looked at. A definition that one default leads to is found once for all.
-fn misfit_of(mem: &[u8], start: usize, n: usize) -> Resolution
+// 47 of the n rows from `start` on, the last ones that are looked at: the first default that does not fit, by its position. A
+// definition that one default leads to is found once for all. The tables are large: ask first whether there is a default.
+pub fn first_misfit(mem: &[u8], start: usize, n: usize) -> Resolution
     requires { ⌜ (length (now mem) ≡ layoutLength) × (start + n ≤ rowLimit) ⌝ }
     ensures { λ r. ⌜ r ≡ misfitIn (rowsFrom (now (mem .entry)) (start + n) 0) (rowsFrom (now (mem .entry)) n start) ⌝ }
 {
@@ -64,18 +65,6 @@ fn misfit_of(mem: &[u8], start: usize, n: usize) -> Resolution
             });
         }
         i += 1;
-    }
-    Resolution::Resolved
-}
-
-// 47 of the n rows from `start` on, the last ones that are looked at: the first default that does not fit, by its position. Where there is no
-// default no table is made.
-pub fn first_misfit(mem: &[u8], start: usize, n: usize) -> Resolution
-    requires { ⌜ (length (now mem) ≡ layoutLength) × (start + n ≤ rowLimit) ⌝ }
-    ensures { λ r. ⌜ r ≡ misfitIn (rowsFrom (now (mem .entry)) (start + n) 0) (rowsFrom (now (mem .entry)) n start) ⌝ }
-{
-    if has_defaults(mem, start, n) {
-        return misfit_of(mem, start, n);
     }
     Resolution::Resolved
 }

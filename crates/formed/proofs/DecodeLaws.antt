@@ -1,7 +1,7 @@
 -- The declarations that memory holds, one after the other, and the tests of well-formedness.
 -- Assumes nothing.
 use mathlib.Core.Path.{_≡_, refl, sym, ap, ap₂, _∙_}
-use mathlib.Core.Bool.{Bool, true, false, _&&_}
+use mathlib.Core.Bool.{Bool, true, false, _&&_, _||_}
 use mathlib.Core.List.{List, [], _∷_, _++_}
 use Prim.Native.Nat.{ℕ, zero, suc, _+_, _-_, _*_, _<_, _≤_}
 use native.Mathlib.Nat.{sub-zero, zero-add}
@@ -9,19 +9,23 @@ use native.Mathlib.Omega.{arith}
 use lib.ListN.{length, take, drop}
 use lib.Seq.{drop-drop, take-at, drop-at, take-all}
 use Rattle.ground.specs.Bytes.{part}
+use Rattle.ground.proofs.Laws.{never}
 use Rattle.name.specs.Name.{every}
 use Rattle.row.specs.Layout.{declarationLimit, rowLimit, layoutLength}
 use Rattle.row.specs.Rows.{Row}
 use Rattle.row.specs.Sets.{flat, sum, encode, wordsOf, countIn, sizesIn, rowsFrom, split, decode, Within, isEncoding}
 use Rattle.row.specs.Memory.{sizeAt, rowsBefore}
 use Rattle.row.proofs.Laws.{length-encode, count-encode, before-encode, encoding-true}
-use Rattle.resolve.specs.Rules.{isDeclaration}
+use Rattle.resolve.specs.Rules.{some, isDeclaration}
 use Rattle.resolve.specs.Resolve.{faultIn, isResolved, resolves}
 use Rattle.formed.specs.WellFormed.{defaultsFit, keepsRules, wellFormed}
+use Rattle.fits.specs.Types.{hasDefault}
 use Rattle.fits.specs.Misfits.{misfitIn}
+use Rattle.fits.proofs.MisfitLaws.{none-fit}
 use Rattle.resolve.specs.declared.Resolution.{Resolution}
 use Rattle.resolve.specs.declared.Resolution.the-variants.{Resolved, Faulty}
 use Rattle.answer.specs.declared.refusal.Fault.{Fault}
+use Rattle.resolve.proofs.ResolveLaws.{some-append}
 use Rattle.resolve.proofs.MemoryLaws.{rows-none, rows-add, length-rows}
 
 -- ---- k places from p on, whose rows start at s
@@ -127,6 +131,23 @@ pub fitting-end : (m : List ℕ) (n p s : ℕ) (x : Bool) → n ≤ p → x ≡ 
 unfolding defaultsFit left wordsOf split
 fitting-end m n p s x l inv = let k : n - p ≡ 0 = omega arith in sym (inv ∙ rw k)
 
+-- no row has a default, so all fit
+none-fitting : (earlier : List Row) (ds : List (List Row)) → some hasDefault (flat ds) ≡ false → defaultsFit earlier ds ≡ true
+unfolding defaultsFit flat
+none-fitting earlier [] h = refl
+none-fitting earlier (d ∷ ds) h = go (some hasDefault d) refl (sym (some-append hasDefault d (flat ds)) ∙ h) (none-fitting (earlier ++ d) ds)
+  where
+    go : (b : Bool) → some hasDefault d ≡ b → (b || some hasDefault (flat ds)) ≡ false → (some hasDefault (flat ds) ≡ false → defaultsFit (earlier ++ d) ds ≡ true)
+        → (isResolved (misfitIn (earlier ++ d) d) && defaultsFit (earlier ++ d) ds) ≡ true
+    go true e h k = never (sym h)
+    go false e h k = rw (none-fit (earlier ++ d) d e) (k h)
+
+rows-of-all : (m : List ℕ) (n : ℕ) → n ≡ countIn m → (t : ℕ) → t ≡ rowsBefore m n → flat (decode m) ≡ rowsFrom m t 0
+rows-of-all m n c t g = ap flat (decode-left m) ∙ flat-left m (countIn m) 0 0 ∙ ap (λ (i : ℕ). rowsFrom m i 0) (sym (before-left m (countIn m)) ∙ ap (rowsBefore m) (sym c) ∙ sym g)
+
+pub fitting-none : (m : List ℕ) (n : ℕ) → n ≡ countIn m → (t : ℕ) → t ≡ rowsBefore m n → some hasDefault (rowsFrom m t 0) ≡ false → true ≡ defaultsFit [] (decode m)
+fitting-none m n c t g h = sym (none-fitting [] (decode m) (ap (some hasDefault) (rows-of-all m n c t g) ∙ h))
+
 -- ---- the tests of well_formed
 
 pub resolved-start : (m : List ℕ) (n : ℕ) (r : Resolution) → r ≡ faultIn (rowsFrom m 0 0) (rowsFrom m n 0) → isResolved r ≡ isResolved (faultIn [] (rowsFrom m n 0))
@@ -171,7 +192,7 @@ module _ (m : List ℕ) where
 
       module _ (h : every isDeclaration (decode m) ≡ true) (t : ℕ) (g : t ≡ rowsBefore m n) where
         all-rows : flat (decode m) ≡ rowsFrom m t 0
-        all-rows = ap flat (decode-left m) ∙ flat-left m (countIn m) 0 0 ∙ ap (λ (i : ℕ). rowsFrom m i 0) (sym (before-left m (countIn m)) ∙ ap (rowsBefore m) (sym c) ∙ sym g)
+        all-rows = rows-of-all m n c t g
 
         pub formed-faulty : isResolved (faultIn [] (rowsFrom m t 0)) ≡ false → false ≡ wellFormed m
         unfolding wellFormed keepsRules resolves

@@ -1,6 +1,7 @@
 // Whether bytes are a well-formed set.
 use chains::SLOTS;
 use fits::first_misfit;
+use fits::has_defaults;
 use resolve::Resolution;
 use resolve::first_fault;
 use resolve::is_declaration_by;
@@ -53,7 +54,7 @@ fn is_resolved(mem: &[u8], n: usize) -> bool
 }
 
 // Is 47 nowhere in the n places? Each is asked among all rows up to its end.
-fn defaults_fit(mem: &[u8], n: usize) -> bool
+fn places_fit(mem: &[u8], n: usize) -> bool
     requires { ⌜ (length (now mem) ≡ layoutLength) × (n ≡ countIn (now mem)) × (n ≤ declarationLimit) × (rowsBefore (now mem) n ≤ rowLimit) ⌝ }
     ensures { λ r. ⌜ r ≡ defaultsFit [] (decode (now (mem .entry))) ⌝ }
 {
@@ -72,6 +73,17 @@ fn defaults_fit(mem: &[u8], n: usize) -> bool
     true
 }
 
+// The same, of places that have so many rows. Most sets have no default, and cost no more than to see that.
+fn defaults_fit(mem: &[u8], n: usize, rows: usize) -> bool
+    requires { ⌜ (length (now mem) ≡ layoutLength) × (n ≡ countIn (now mem)) × (n ≤ declarationLimit) × (rowsBefore (now mem) n ≤ rowLimit) × (rows ≡ rowsBefore (now mem) n) ⌝ }
+    ensures { λ r. ⌜ r ≡ defaultsFit [] (decode (now (mem .entry))) ⌝ }
+{
+    if has_defaults(mem, 0, rows) {
+        return places_fit(mem, n);
+    }
+    true
+}
+
 // For any bytes: are they the encoding of a set that keeps the rules?
 pub fn well_formed(mem: &[u8]) -> bool
     ensures { λ r. ⌜ r ≡ wellFormed (now (mem .entry)) ⌝ }
@@ -83,8 +95,9 @@ pub fn well_formed(mem: &[u8]) -> bool
     if !are_declarations(mem, n) {
         return false;
     }
-    if !is_resolved(mem, rows_before(mem, n)) {
+    let rows = rows_before(mem, n);
+    if !is_resolved(mem, rows) {
         return false;
     }
-    defaults_fit(mem, n)
+    defaults_fit(mem, n, rows)
 }

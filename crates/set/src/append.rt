@@ -4,6 +4,7 @@ use answer::Counts;
 use answer::Refusal;
 use answer::Why;
 use fits::first_misfit;
+use fits::has_defaults;
 use resolve::Resolution;
 use resolve::first_fault;
 use row::read::counts;
@@ -18,6 +19,7 @@ ghost use Rattle.answer.specs.declared.Answer.the-variants.{Refused};
 ghost use Rattle.row.specs.Layout.{declarationLimit, rowLimit, layoutLength};
 ghost use Rattle.row.specs.Rows.{Row};
 ghost use Rattle.row.specs.Sets.{countIn, rowsFrom, decode};
+ghost use Rattle.fits.specs.Misfits.{misfitIn};
 ghost use Rattle.formed.specs.WellFormed.{wellFormed};
 ghost use Rattle.set.specs.Lists.{append};
 ghost use Rattle.set.specs.Steps.{countedMore, pushedMore, joined, Drafted, IsDraft, Ended};
@@ -66,6 +68,17 @@ pub(crate) fn join(mem: &mut [u8], from: &[u8], start: usize, n: usize, bytes: u
     }
 }
 
+// 47 of the last n rows, from `start` on. The check lays out large tables, so it is asked first whether there is a default.
+fn misfit(out: &[u8], start: usize, n: usize) -> Resolution
+    requires { ⌜ (length (now out) ≡ layoutLength) × (start + n ≤ rowLimit) ⌝ }
+    ensures { λ r. ⌜ r ≡ misfitIn (rowsFrom (now (out .entry)) (start + n) 0) (rowsFrom (now (out .entry)) n start) ⌝ }
+{
+    if has_defaults(out, start, n) {
+        return first_misfit(out, start, n);
+    }
+    Resolution::Resolved
+}
+
 // The same with 47, in memory that holds anything where it is refused.
 pub(crate) fn append(out: &mut [u8], from: &[u8], start: usize, n: usize, bytes: usize) -> Answer
     requires { ⌜ (wellFormed (now out) ≡ true) × (countIn (now out) < declarationLimit) × IsDraft (now «from») start n bytes ⌝ }
@@ -77,7 +90,7 @@ pub(crate) fn append(out: &mut [u8], from: &[u8], start: usize, n: usize, bytes:
     match a {
         Answer::Refused(r) => Answer::Refused(r),
         Answer::Done(c) => {
-            let defaults = first_misfit(out, sum.rows, n);
+            let defaults = misfit(out, sum.rows, n);
             match defaults {
                 Resolution::Faulty(f) => Answer::Refused(f.placed(sum.declarations)),
                 Resolution::Resolved => Answer::Done(c),

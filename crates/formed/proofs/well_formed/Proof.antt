@@ -33,7 +33,7 @@ returns-3 : tie.Need-returns-3
 returns-3 c = formed-faulty _ (sym (c .before .before .before .before .before .before .before .is-encoding .ensures) ∙ not-false _ (c .before .before .before .before .before .before .if1 .left)) _ (c .before .before .before .before .before .declarations .ensures) (sym (c .before .before .before .before .are-declarations .ensures) ∙ not-false _ (c .before .before .before .if2 .left)) _ (c .before .before .rows-before .ensures) (sym (c .before .is-resolved .ensures) ∙ not-true _ (c .if3 .taken))
 
 defaults-fit-requires : tie.Need-defaults-fit-requires
-defaults-fit-requires c κs = formed-asks _ (sym (c .before .before .before .before .before .before .before .is-encoding .ensures) ∙ not-false _ (c .before .before .before .before .before .before .if1 .left)) _ (c .before .before .before .before .before .declarations .ensures)
+defaults-fit-requires c κs = let a = formed-asks _ (sym (c .before .before .before .before .before .before .before .is-encoding .ensures) ∙ not-false _ (c .before .before .before .before .before .before .if1 .left)) _ (c .before .before .before .before .before .declarations .ensures) in (a .0, a .1, a .2, a .3, c .before .before .rows-before .ensures)
 
 returns-4 : tie.Need-returns-4
 returns-4 c = c .defaults-fit .ensures ∙ formed-last _ (sym (c .before .before .before .before .before .before .before .before .is-encoding .ensures) ∙ not-false _ (c .before .before .before .before .before .before .before .if1 .left)) _ (c .before .before .before .before .before .before .declarations .ensures) (sym (c .before .before .before .before .before .are-declarations .ensures) ∙ not-false _ (c .before .before .before .before .if2 .left)) _ (c .before .before .before .rows-before .ensures) (sym (c .before .before .is-resolved .ensures) ∙ not-false _ (c .before .if3 .left))

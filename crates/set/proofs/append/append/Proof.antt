@@ -20,8 +20,8 @@ enum-known-a c = search needs
 enum-known-a-2 : tie.Need-enum-known-a-2
 enum-known-a-2 c = search needs
 
-first-misfit-requires : tie.Need-first-misfit-requires
-first-misfit-requires c κs =
+misfit-requires : tie.Need-misfit-requires
+misfit-requires c κs =
     let d = misfit-asks _ _ _ _ _ _ _ (c .before .before .before .before .before .before .join .ensures) (c .before .before .before .before .before .before .before .before .before .before .before .before .pre .0) (c .before .before .before .before .before .before .before .before .before .before .before .before .pre .1) _ (c .before .before .before .before .before .before .before .before .counts .ensures) (c .before .before .a2 .given .1) (c .before .before .before .before .before .before .before .before .before .before .before .before .pre .2) in (d .0, omega (arith, d .1))
 
 enum-known-defaults : tie.Need-enum-known-defaults
@@ -44,14 +44,14 @@ same-length-2 c = search needs
 
 returns-2 : tie.Need-returns-2
 returns-2 c =
-    λ rows d. append-misfit _ _ _ _ _ _ _ (c .before .before .before .before .before .before .before .before .before .before .before .join .ensures) (c .before .before .before .before .before .before .before .before .before .before .before .before .before .before .before .before .before .pre .0) (c .before .before .before .before .before .before .before .before .before .before .before .before .before .before .before .before .before .pre .1) _ (c .before .before .before .before .before .before .before .before .before .before .before .before .before .counts .ensures) (c .before .before .before .before .before .before .before .a2 .given .1) _ (c .before .before .before .before .first-misfit .ensures) (c .before .before .defaults .given .1) rows d (c .placed .ensures)
+    λ rows d. append-misfit _ _ _ _ _ _ _ (c .before .before .before .before .before .before .before .before .before .before .before .join .ensures) (c .before .before .before .before .before .before .before .before .before .before .before .before .before .before .before .before .before .pre .0) (c .before .before .before .before .before .before .before .before .before .before .before .before .before .before .before .before .before .pre .1) _ (c .before .before .before .before .before .before .before .before .before .before .before .before .before .counts .ensures) (c .before .before .before .before .before .before .before .a2 .given .1) _ (c .before .before .before .before .misfit .ensures) (c .before .before .defaults .given .1) rows d (c .placed .ensures)
 
 same-length-3 : tie.Need-same-length-3
 same-length-3 c = search needs
 
 returns-3 : tie.Need-returns-3
 returns-3 c =
-    append-done _ _ _ _ _ _ _ (c .before .before .before .before .before .before .before .before .before .join .ensures) (c .before .before .before .before .before .before .before .before .before .before .before .before .before .before .before .pre .0) (c .before .before .before .before .before .before .before .before .before .before .before .before .before .before .before .pre .1) _ (c .before .before .before .before .before .before .before .before .before .before .before .counts .ensures) (c .before .before .before .before .before .a2 .given .1) _ (c .before .before .first-misfit .ensures) (c .enum-told .given .1)
+    append-done _ _ _ _ _ _ _ (c .before .before .before .before .before .before .before .before .before .join .ensures) (c .before .before .before .before .before .before .before .before .before .before .before .before .before .before .before .pre .0) (c .before .before .before .before .before .before .before .before .before .before .before .before .before .before .before .pre .1) _ (c .before .before .before .before .before .before .before .before .before .before .before .counts .ensures) (c .before .before .before .before .before .a2 .given .1) _ (c .before .before .misfit .ensures) (c .enum-told .given .1)
 
 pub append-spec : {M : Type 1} → statement M
 append-spec =
@@ -61,7 +61,7 @@ append-spec =
     join-requires
     enum-known-a
     enum-known-a-2
-    first-misfit-requires
+    misfit-requires
     enum-known-defaults
     placed-requires
     enum-told
