@@ -1,7 +1,7 @@
 /* Dhokyurai: Avro declarations in one set of lent memory, for C and C++.
  *
  * Every function takes any bytes; no caller has to check first. Each answers 0 where it is accepted, and else the number of a
- * refusal, 1 to 29 (README.md lists them); a refusal leaves memory and buffers as they were. Nothing is allocated or kept: all
+ * refusal, 1 to 29, 47 or 48 (README.md lists them); a refusal leaves memory and buffers as they were. Nothing is allocated or kept: all
  * state is in the memory that is lent. Stack: 600 KB are enough (measured on x86-64, with rows nested 1,023 deep, the most that a set can hold; proofs
  * know no stack). What is promised is proved; docs/PROMISES.md says where.
  *
@@ -29,6 +29,7 @@ uint8_t dhokyurai_open(uint8_t *memory, size_t memory_length, size_t *a, size_t 
 /* Puts the declaration that the text holds at a place of the set, from 0: in place of the one that stands there, or, where the place is the
  * count of declarations (*a of the last accepted call), as one more at the set's end. Answer and memory are those of putting the edited
  * list of texts one by one at the end of an empty set. No row or string before the place moves.
+ * A field's default that does not fit its type is refused by 47, in the text that is put and in every declaration behind its place.
  * 20 has the place asked for. 21 is for places above the count, and no others; 22 for the place 32 of a set of 32, and no other.
  * (In earlier versions there were dhokyurai_add, which is put at the count, and dhokyurai_replace, which is put below it.) */
 uint8_t dhokyurai_put(uint8_t *memory, size_t memory_length, size_t place, const uint8_t *text, size_t text_length, size_t *a, size_t *b,

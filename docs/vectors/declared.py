@@ -59,10 +59,16 @@ def refused(number, text, answer, block):
     return wanted
 
 
+def shown(default):
+    """A default in one line: a byte of white space as a blank, one that is not ASCII as `?`."""
+    return "".join(" " if b in b"\t\n\r" else chr(b) if b < 127 else "?" for b in default)
+
+
 def row_says(line, number, row):
-    _, kind, depth, position, size, note, _, _, name = row.split()
+    _, kind, depth, position, size, note, _, _, name, _, default = row.split()
     words = [str(number), kind, depth, position] + ([] if name == "-" else [bytes.fromhex(name).decode()])
-    return line.split()[:len(words)] == words and (size == "0" or "size " + size in line) and (note == "0" or "note " + note in line)
+    return (line.split()[:len(words)] == words and (size == "0" or "size " + size in line) and (note == "0" or "note " + note in line)
+            and ("  default " not in line if default == "-" else line.endswith("  default " + shown(bytes.fromhex(default)))))
 
 
 def accepted(number, place, before, block):

@@ -25,9 +25,11 @@ use Rattle.form.specs.Spots.{aliasesIn, allTexts, asArray, asText, fieldsIn, ob
 use Rattle.rules.specs.Fields.{fieldNameAt, fieldNamesCheck, takenBy}
 use Rattle.rules.specs.Unions.{before, clash, headOf, isNew, unionCheck}
 use Rattle.schema.specs.Out.{each}
-use Rattle.schema.specs.Schema.{aliasRows, declared, definition, definitionRows, fieldAliasRows, fieldRows, fieldsRows, fixedRows, primitiveRows, recordRows, referenceRows, rowsOf, schemaBy, schemaOf, unionRows, wordRows}
+use Rattle.schema.specs.Schema.{aliasRows, declared, definition, definitionRows, fieldAliasRows, fieldRow, fieldRows, fieldsRows, fixedRows, keptCheck, primitiveRows, recordRows, referenceRows, rowsOf, schemaBy, schemaOf, unionRows, wordRows}
 use Rattle.resolve.specs.Kinds.{isDefinition, isKind}
 use Rattle.resolve.specs.Resolve.{defines, faultIn, faultOf, isDefined}
+use Rattle.fits.specs.Types.{hasDefault}
+use Rattle.fits.specs.Misfits.{defaultFits, misfitIn}
 use Rattle.set.specs.Lists.{Result, append, appendAll, becomes, next, putIn, refuses}
 use Rattle.canonical.specs.Canonical.{canonicalOf, isWritten, listed, partsOf, startsAt, textOf}
 use Rattle.canonical.specs.Pieces.{closing, opening}
@@ -154,5 +156,5 @@ marks =
 
 -- every mark's answer is the one that the definitions give
 pub marks-hold : map (λ (m : Mark). answerTo (m .0)) marks ≡ map (λ (m : Mark). m .1) marks
-unfolding marks byteAt same every isEmpty isOneOf isWithin isLetter isDigit isFirst isLater isSimple joined ontoFirst parts isDotted startsWithDot isName isNamespace hasDot fullName lastOf lastPart namespacePart reservedWords isReserved wordOf simple number text run verdict scanned valueFrom firstElement nextElement unroll elementsAt elements isDelimiter literalEnd modeAfter depthAfter atRest toRest closingOf isBlock endOf valueOf isMember keyFrom firstKey keyBehind keysAt membersAt lastUnder member membersOf fitting sizeFrom sizeOf partAt isStop stringFrom bytesFrom stringAt count skipOf shapeOf isValue stringsOf texts flat wordKind objectForm formBy formWithin simpleCheck fullAt referenceCheck aliasCheck namespaceOf definedAt namespaceCheck definitionCheck asText asArray allTexts aliasesIn objectsAmong fieldsIn fieldNameAt takenBy fieldNamesCheck clash headOf before isNew unionCheck each referenceRows primitiveRows wordRows aliasRows definitionRows definition fieldAliasRows fieldRows fieldsRows recordRows fixedRows unionRows schemaBy schemaOf rowsOf declared isKind isDefinition defines isDefined faultOf faultIn append appendAll putIn isWritten startsAt partsOf listed textOf canonicalOf opening closing bitStep bitSteps entryOf byteBits byteStep rabinFrom isShort some under
+unfolding marks byteAt same every isEmpty isOneOf isWithin isLetter isDigit isFirst isLater isSimple joined ontoFirst parts isDotted startsWithDot isName isNamespace hasDot fullName lastOf lastPart namespacePart reservedWords isReserved wordOf simple number text run verdict scanned valueFrom firstElement nextElement unroll elementsAt elements isDelimiter literalEnd modeAfter depthAfter atRest toRest closingOf isBlock endOf valueOf isMember keyFrom firstKey keyBehind keysAt membersAt lastUnder member membersOf fitting sizeFrom sizeOf partAt isStop stringFrom bytesFrom stringAt count skipOf shapeOf isValue stringsOf texts flat wordKind objectForm formBy formWithin simpleCheck fullAt referenceCheck aliasCheck namespaceOf definedAt namespaceCheck definitionCheck asText asArray allTexts aliasesIn objectsAmong fieldsIn fieldNameAt takenBy fieldNamesCheck clash headOf before isNew unionCheck each referenceRows primitiveRows wordRows aliasRows definitionRows definition fieldAliasRows fieldRow keptCheck fieldRows fieldsRows recordRows fixedRows unionRows schemaBy schemaOf rowsOf declared isKind isDefinition defines isDefined faultOf faultIn hasDefault defaultFits misfitIn append appendAll putIn isWritten startsAt partsOf listed textOf canonicalOf opening closing bitStep bitSteps entryOf byteBits byteStep rabinFrom isShort some under
 marks-hold = refl
