@@ -22,6 +22,9 @@ read-row-requires c κs = search needs
 string-of-requires : tie.Need-string-of-requires Inv-loop μ-loop
 string-of-requires c κs = search needs
 
+default-of-requires : tie.Need-default-of-requires Inv-loop μ-loop
+default-of-requires c κs = search needs
+
 sub-put-row : tie.Need-sub-put-row Inv-loop μ-loop
 sub-put-row c = search needs
 
@@ -52,6 +55,7 @@ put-each-spec =
     loop-holds
     read-row-requires
     string-of-requires
+    default-of-requires
     sub-put-row
     put-row-requires
     add-i
