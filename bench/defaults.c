@@ -81,6 +81,34 @@ static size_t listed(uint8_t *out, size_t room, int n, const char *value) {
     return finish(&t);
 }
 
+/* A union of n records with a field `m` that is a map of ints, of which the last alone has a default for it. */
+static size_t mapped(uint8_t *out, size_t room, int n, const char *value) {
+    struct text t = begin(out, room, "{\"type\":\"record\",\"name\":\"A\",\"fields\":[");
+    char piece[400];
+    for (int i = 0; i < n; i++) {
+        sprintf(piece, "{\"name\":\"f%d\",\"type\":{\"type\":\"record\",\"name\":\"R%d\",\"fields\":[{\"name\":\"%s\",\"type\":{\"type\":\"map\",\"values\":\"int\"}%s}]}},", i, i,
+                i + 1 < n ? "m" : "o", i + 1 < n ? "" : ",\"default\":{}");
+        put(&t, piece, 2);
+    }
+    put(&t, "{\"name\":\"d\",\"type\":[", 2);
+    for (int i = 0; i < n; i++) {
+        sprintf(piece, "%s\"R%d\"", i ? "," : "", i);
+        put(&t, piece, 2);
+    }
+    sprintf(piece, "],\"default\":%s}", value);
+    put(&t, piece, 2);
+    return finish(&t);
+}
+
+/* {"m":{..}} with n members, the last of which is no number. */
+static const char *members(int n) {
+    static char s[400];
+    strcpy(s, "{\"m\":{");
+    for (int i = 0; i < n; i++) sprintf(s + strlen(s), "%s\"%c\":%s", i ? "," : "", i < 26 ? 'a' + i : 'A' + i - 26, i + 1 < n ? "1" : "\"\"");
+    strcat(s, "}}");
+    return s;
+}
+
 static const char *nested(int levels, const char *inmost) {
     static char s[400];
     s[0] = 0;
@@ -118,6 +146,7 @@ int main(void) {
     slow("one default: 42 objects in one another, 40 records of unions", mutual(with, sizeof with, 40, 40, 1, nested(42, "1")));
     slow("one default: 42 objects in one another, 100 records of unions of 5", mutual(with, sizeof with, 100, 5, 1, nested(42, "1")));
     slow("one default: 84 empty objects, a union of 200 records", listed(with, sizeof with, 200, many(84, "{}")));
+    slow("one default: an object of 40 members, a union of 160 records of maps", mapped(with, sizeof with, 160, members(40)));
     slow("50 defaults: 42 objects in one another, 34 records of unions", mutual(with, sizeof with, 34, 34, 50, nested(42, "1")));
     return 0;
 }

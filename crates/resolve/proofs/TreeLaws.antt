@@ -10,7 +10,7 @@ use native.Mathlib.Omega.{arith}
 use lib.Dec.{eqb, ltb, eqb·suc-zero}
 use lib.ListN.{length}
 use borrow.Author.Tests.{lt-ltb, le-ltb, le-leb, lt-leb, eq-eqb, ne-eqb}
-use Rattle.name.specs.Name.{every}
+use Rattle.name.specs.Name.{every, isEmpty}
 use Rattle.name.proofs.Laws.{empty-none, empty-some}
 use Rattle.json.specs.Json.{longest}
 use Rattle.row.specs.Rows.{Row}
@@ -183,11 +183,21 @@ module _ (m : List ℕ) (i : ℕ) (d : List ℕ) (e : d ≡ defaultAt m i) where
   unfolding goodStrings
   fine-default h = rw (← e, h, and-true)
 
--- and its size, of a row that is no fixed
+-- and its size: 0 on any row
+pub zero-size : (r : Row) → r .size ≡ 0 → true ≡ goodSize r
+unfolding goodSize
+zero-size r e = rw e (go (isKind Fixed (r .kind)) (isEmpty (r .default)))
+  where
+    go : (b none : Bool) → true ≡ cond b true (cond none true true)
+    go true none = refl
+    go false true = refl
+    go false false = refl
+
+-- of a row that is no fixed
 module _ (m : List ℕ) (i : ℕ) (d : List ℕ) (e : d ≡ defaultAt m i) (k : isKind Fixed (entryAt m i .kind) ≡ false) where
-  pub no-size : length d ≡ 0 → eqb (entryAt m i .size) 0 ≡ goodSize (rowAt m i)
+  pub no-size : length d ≡ 0 → (entryAt m i .size ≡ 0 → ⊥) → false ≡ goodSize (rowAt m i)
   unfolding goodSize
-  no-size h = rw (k, ← e, empty-none d h)
+  no-size h z = rw (k, ← e, empty-none d h, ne-eqb (entryAt m i .size) 0 z)
 
   pub position-size : (length d ≡ 0 → ⊥) → ltb (entryAt m i .size) longest ≡ goodSize (rowAt m i)
   unfolding goodSize

@@ -23,11 +23,14 @@ fn good_size(mem: &[u8], kind: u8, i: usize, size: u64) -> bool
     requires { ⌜ (length (now mem) ≡ layoutLength) × (i < rowLimit) × (kind ≡ kindNumber (entryAt (now mem) i .kind)) × (size ≡ entryAt (now mem) i .size) ⌝ }
     ensures { λ r. ⌜ r ≡ goodSize (rowAt (now (mem .entry)) i) ⌝ }
 {
+    if size == 0 {
+        return true;
+    }
     if is_kind(Kind::Fixed, kind) {
         return true;
     }
     if default_of(mem, i).len() == 0 {
-        return size == 0;
+        return false;
     }
     size < Scan::TEXT as u64
 }

@@ -6,7 +6,7 @@ use mathlib.Core.Path.{sym, ap, ap₂, _∙_}
 use Prim.Native.Nat.{ℕ}
 use lib.Dec.{ltb}
 use borrow.Author.Tests.{le-ltb, lt-ltb, not-true, not-false}
-use Rattle.resolve.specs.Rules.{goodSize, goodNote, goodPrecision, goodNumbers}
+use Rattle.resolve.specs.Rules.{goodNote, goodPrecision, goodNumbers}
 use borrow.Author.Needs.{needs}
 use Rattle.resolve.proofs.numbers.good_numbers.Statement.{statement}
 use Rattle.resolve.proofs.numbers.good_numbers.Tie as tie
