@@ -2,3 +2,4 @@ pub mod Deep
 pub mod Forms
 mod Rows
 pub mod Fuel
+pub mod Fits
