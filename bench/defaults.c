@@ -85,6 +85,15 @@ static size_t mutual(uint8_t *out, size_t room, int n, int k, int defaults, cons
     return finish(&t);
 }
 
+/* The names of n records, as the members of a union. */
+static void references(struct text *t, int n) {
+    char piece[40];
+    for (int i = 0; i < n; i++) {
+        sprintf(piece, "%s\"R%d\"", i ? "," : "", i);
+        put(t, piece, 2);
+    }
+}
+
 /* An array of a union of n records, of which the last alone takes an empty object. */
 static size_t listed(uint8_t *out, size_t room, int n, const char *value) {
     struct text t = begin(out, room, "{\"type\":\"record\",\"name\":\"A\",\"fields\":[");
@@ -94,10 +103,7 @@ static size_t listed(uint8_t *out, size_t room, int n, const char *value) {
         put(&t, piece, 2);
     }
     put(&t, "{\"name\":\"d\",\"type\":{\"type\":\"array\",\"items\":[", 2);
-    for (int i = 0; i < n; i++) {
-        sprintf(piece, "%s\"R%d\"", i ? "," : "", i);
-        put(&t, piece, 2);
-    }
+    references(&t, n);
     sprintf(piece, "]},\"default\":%s}", value);
     put(&t, piece, 2);
     return finish(&t);
@@ -113,10 +119,7 @@ static size_t mapped(uint8_t *out, size_t room, int n, const char *value) {
         put(&t, piece, 2);
     }
     put(&t, "{\"name\":\"d\",\"type\":[", 2);
-    for (int i = 0; i < n; i++) {
-        sprintf(piece, "%s\"R%d\"", i ? "," : "", i);
-        put(&t, piece, 2);
-    }
+    references(&t, n);
     sprintf(piece, "],\"default\":%s}", value);
     put(&t, piece, 2);
     return finish(&t);
