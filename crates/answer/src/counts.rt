@@ -3,7 +3,7 @@ ghost use Rattle.std.specs.Prelude.{◌≡◌};
 ghost use Rattle.answer.specs.Limits.{no_counts, counts_of};
 
 // How many declarations, rows and string bytes a set holds.
-#[derive(Drop)]
+#[derive(Clone, Copy)]
 pub struct Counts {
     pub declarations: usize,
     pub rows: usize,

@@ -5,7 +5,7 @@ ghost use Rattle.answer.specs.Answers.{accepted, of_refusal, numbers_of};
 use crate::{Answer, Refusal};
 
 // 0 and what was accepted, or the refusal's number, its declaration's place and the byte position.
-#[derive(Drop)]
+#[derive(Clone, Copy)]
 pub struct Numbers {
     pub number: u8,
     pub first: usize,

@@ -4,7 +4,7 @@ ghost use Rattle.answer.specs.Numbers.{number_of};
 ghost use Rattle.answer.specs.Places.{placed};
 
 // What is wrong. The order is that of 01's table "Numbers returned" and of 02's behind it.
-#[derive(Drop)]
+#[derive(Clone, Copy)]
 pub enum Why {
     TextTooLong,
     NotJson,
@@ -97,7 +97,7 @@ impl Why {
 }
 
 // A refusal: what is wrong, the declaration's place in the set, the byte position in its text.
-#[derive(Drop)]
+#[derive(Clone, Copy)]
 pub struct Refusal {
     pub why: Why,
     pub place: usize,
@@ -105,7 +105,7 @@ pub struct Refusal {
 }
 
 // What is wrong with a text, and at which byte, while its place is not known.
-#[derive(Drop)]
+#[derive(Clone, Copy)]
 pub struct Fault {
     pub why: Why,
     pub at: usize,

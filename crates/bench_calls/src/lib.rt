@@ -1,4 +1,6 @@
 // What bench/ times, as functions that C can call.
+#![tactic(auto)]
+
 ghost use Rattle.std.specs.Prelude.{◌≡◌, length};
 ghost use Rattle.answer.specs.Answers.{numbers_of};
 ghost use Rattle.bench_calls.specs.Places.{place_of, rows_read, rows_in, length_in, offsets_in};

@@ -1,4 +1,6 @@
 // Numbers in Avro's binary encoding.
+#![tactic(auto)]
+
 pub mod number;
 
 ghost use Rattle.std.specs.Prelude.{◌≡◌, ◌≤◌, ◌<◌, ◌^◌, length, drop};

@@ -1,4 +1,6 @@
 // Where in the text a string breaks a rule for names, and which character stands there.
+#![tactic(auto)]
+
 mod characters;
 mod places;
 

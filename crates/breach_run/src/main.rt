@@ -1,6 +1,8 @@
 // Reads strings, a line each, as they are written between quotes, and writes for each what becomes of seven declarations that have
 // it in seven places: `ok`, or the number and the position of the fault. The places: a definition's name, its alias, a reference, a
 // namespace, a field's name, its alias, a symbol.
+#![tactic(auto)]
+
 ghost use Rattle.std.specs.Prelude.{◌≤◌, length};
 
 use answer::Fault;

@@ -2,7 +2,7 @@
 use answer::{Counts, Refusal};
 
 // The canonical text's length, or a refusal.
-#[derive(Drop)]
+#[derive(Clone, Copy)]
 pub enum Written {
     Length(usize),
     Refused(Refusal),
@@ -17,7 +17,7 @@ impl Written {
 }
 
 // The canonical text's fingerprint, or a refusal.
-#[derive(Drop)]
+#[derive(Clone, Copy)]
 pub enum Print {
     Fingerprint(i64),
     Refused(Refusal),

@@ -1,4 +1,6 @@
 // Canonical text and fingerprint of a declaration in a set.
+#![tactic(auto)]
+
 pub mod answers;
 mod calls;
 mod decimal;

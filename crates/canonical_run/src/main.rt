@@ -1,4 +1,6 @@
 // Reads declarations, a line of hex each, and writes for each the canonical text in hex and the fingerprint, or the refusal.
+#![tactic(auto)]
+
 use answer::Answer;
 use canonical::{Print, Written};
 use row::Layout;

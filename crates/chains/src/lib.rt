@@ -1,5 +1,7 @@
 // Chains of numbers by slots, in two lent tables: the numbers that were entered under a slot, the last one first. What is on a chain
 // is looked at, so that no mark and no slot is trusted with anything; what was entered is on the chain of its slot.
+#![tactic(auto)]
+
 ghost use Rattle.std.specs.Prelude.{◌≡◌, ◌+◌, ◌*◌, ◌<◌, ◌≤◌, length, get_or, set};
 ghost use Rattle.chains.specs.Marks.{two_at, eight_at, short_from, spread, mark_of};
 ghost use Rattle.chains.specs.Chains.{slots, slot_of};

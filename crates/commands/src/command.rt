@@ -1,7 +1,7 @@
 // What a line of a script asks for. Of bytes a command has the number: they lie in a buffer beside it.
 
 // A call of the library.
-#[derive(Drop)]
+#[derive(Clone, Copy)]
 pub enum Call {
     Open,
     // A place and a text.
@@ -24,7 +24,7 @@ pub enum Call {
     Digest,
 }
 
-#[derive(Drop)]
+#[derive(Clone, Copy)]
 pub enum Command {
     // So many bytes of the memory are lent to the calls.
     Lend(usize),

@@ -1,4 +1,6 @@
 // The lines of a script of calls on a set: docs/REPLAY.md.
+#![tactic(auto)]
+
 pub mod command;
 mod parse;
 

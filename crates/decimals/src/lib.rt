@@ -1,4 +1,6 @@
 // How many digits a decimal over a fixed may have: sixteen limits, one for each size from 1 to 16.
+#![tactic(auto)]
+
 ghost use Rattle.std.specs.Prelude.{◌≡◌};
 ghost use Rattle.decimals.specs.Limits.{limit_of};
 

@@ -2,6 +2,8 @@
 //
 // Without arguments they come from standard input: one text, or several as a JSON text sequence (RFC 7464), where the byte 1E
 // begins each. With arguments each argument names a file that holds one. All go into one set, in order.
+#![tactic(auto)]
+
 mod answers;
 mod code;
 mod columns;

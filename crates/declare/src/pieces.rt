@@ -7,7 +7,7 @@ use libc::STDIN_FILENO;
 
 // The buffer's bytes from `from` to `to`. Those from `next` to `end` were read and are left.
 // Behind the last piece the input ends, or it failed. A piece that does not fit the buffer with its mark is cut, and its rest is skipped.
-#[derive(Drop)]
+#[derive(Clone, Copy)]
 pub(crate) struct Piece {
     pub(crate) from: usize,
     pub(crate) to: usize,

@@ -3,7 +3,7 @@ ghost use Rattle.std.specs.Prelude.{◌≡◌, ◌+◌, ◌≤◌, ◌<◌, leng
 ghost use Rattle.declare.specs.Spots.{stepped, spot_of};
 
 // Both are counted from 1, the column in bytes.
-#[derive(Drop)]
+#[derive(Clone, Copy)]
 pub(crate) struct Spot {
     pub(crate) line: usize,
     pub(crate) column: usize,

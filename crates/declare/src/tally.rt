@@ -3,7 +3,7 @@ use answer::Counts;
 use script::output::{put, put_decimal};
 
 // The set's counts, how many texts were tried, how many of them were refused, and how many files were not read.
-#[derive(Drop)]
+#[derive(Clone, Copy)]
 pub(crate) struct Tally {
     pub(crate) counts: Counts,
     pub(crate) texts: usize,

@@ -1,5 +1,7 @@
 // The calls of a set for C and Rust, on pointers, lengths and numbers. include/dhokyurai.h says what each promises.
 // Each answers 0 where it is accepted, and else the refusal's number.
+#![tactic(auto)]
+
 mod numbers;
 
 ghost use Rattle.std.specs.Prelude.{◌≡◌, length};

@@ -1,4 +1,6 @@
 // Does a value fit a type? The value is a text of its own, the type a row of a set's memory. And which default of a set does not?
+#![tactic(auto)]
+
 mod definitions;
 mod leaves;
 mod misfits;

@@ -4,7 +4,7 @@ ghost use Rattle.form.specs.Checks.{fault, must};
 
 use answer::{Fault, Why};
 
-#[derive(Drop)]
+#[derive(Clone, Copy)]
 pub enum Check {
     Fine,
     Bad(Fault),

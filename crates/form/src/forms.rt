@@ -20,7 +20,7 @@ use row::Kind;
 use view::{Members, Spot, literal, members_at, string_copy};
 
 // A string, with the object whose `type` it is, if there is one; an array, map, record, enum or fixed by its object; a union by its bracket.
-#[derive(Drop)]
+#[derive(Clone, Copy)]
 pub enum Form {
     Word(usize, Spot),
     ArrayOf(usize),
@@ -38,7 +38,7 @@ impl Form {
 }
 
 // A form, with the members of the object that it goes by; with none where it goes by no object.
-#[derive(Drop)]
+#[derive(Clone, Copy)]
 pub struct Found {
     pub form: Form,
     pub members: Members,

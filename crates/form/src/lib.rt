@@ -1,4 +1,6 @@
 // What a declaration's text says at a place: forms, decimals' notes, and the names with their checks 7, 8, 9.
+#![tactic(auto)]
+
 pub mod check;
 pub mod forms;
 pub mod names;

@@ -18,7 +18,7 @@ use name::{Full, full_name, has_dot, is_name, is_namespace, is_reserved, is_simp
 use view::{Members, Spot, literal, string_copy};
 
 // What became of a full name: its length, it being kept, or the fault.
-#[derive(Drop)]
+#[derive(Clone, Copy)]
 pub enum Named {
     Kept(usize),
     Wrong(Fault),

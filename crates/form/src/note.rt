@@ -8,7 +8,7 @@ use decimals::limit;
 use view::{Members, Size, Spot, size_literal, string_is};
 
 // The note, 0 where there is no decimal; precision and scale where it is 1.
-#[derive(Drop)]
+#[derive(Clone, Copy)]
 pub struct Note {
     pub note: u8,
     pub precision: u64,
@@ -16,7 +16,7 @@ pub struct Note {
 }
 
 // The type that is left where no decimal holds: bytes, or a fixed with its size.
-#[derive(Drop)]
+#[derive(Clone, Copy)]
 pub enum Plain {
     Bytes,
     Fixed(u64),

@@ -1,4 +1,6 @@
 // Whether bytes are a well-formed set.
+#![tactic(auto)]
+
 ghost use Rattle.std.specs.Prelude.{◌≡◌, [], ◌≤◌, length};
 ghost use Rattle.name.specs.Name.{every};
 ghost use Rattle.row.specs.Layout.{declaration_limit, row_limit, layout_length};

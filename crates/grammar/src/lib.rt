@@ -1,1 +1,2 @@
 // The scan held against the grammar of RFC 8259: definitions in specs/, theorems in proofs/, and no code.
+#![tactic(auto)]

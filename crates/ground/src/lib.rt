@@ -1,4 +1,6 @@
 // Strings of bytes, as every other crate reads, compares and copies them; and the size of a signed number.
+#![tactic(auto)]
+
 ghost use Rattle.std.specs.Prelude.{◌≡◌, ◌-◌, max, min, nat_abs};
 ghost use Rattle.ground.specs.Bytes.{byte_at, same, all_zero, store};
 

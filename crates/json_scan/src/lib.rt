@@ -1,4 +1,6 @@
 // The scan of a text: exactly one JSON value (RFC 8259) with white space around it, in UTF-8, of at most 32,768 bytes, with brackets nested at most 64 deep.
+#![tactic(auto)]
+
 mod byte;
 mod escape;
 mod number;

@@ -8,14 +8,14 @@ use answer::{Fault, Why};
 use ground::byte_at;
 
 // Where a reader stopped: past what it read, or at a fault.
-#[derive(Drop)]
+#[derive(Clone, Copy)]
 pub enum Step {
     Next(usize),
     Fails(Fault),
 }
 
 // After an element: another one follows, or the bracket is closed, or a fault.
-#[derive(Drop)]
+#[derive(Clone, Copy)]
 pub enum More {
     Again(usize),
     Closed(usize),

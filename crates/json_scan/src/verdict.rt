@@ -2,7 +2,7 @@
 use answer::Fault;
 
 // A text is whole, or it has a first fault.
-#[derive(Drop)]
+#[derive(Clone, Copy)]
 pub enum Scan {
     Whole,
     Bad(Fault),

@@ -1,5 +1,7 @@
 // Names of definitions, fields and symbols, as bytes: what a name is, its full name in a namespace, the two halves of a
 // full name, and the reserved last parts. Every public function is total: any bytes may be handed in.
+#![tactic(auto)]
+
 mod halves;
 mod qualify;
 mod reserved;

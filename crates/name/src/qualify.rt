@@ -8,7 +8,7 @@ use crate::rule::starts_with_dot;
 use ground::copy;
 
 // What became of a full name: its length, or that it is over the `LONGEST` bytes that are kept of a string.
-#[derive(Drop)]
+#[derive(Clone, Copy)]
 pub enum Full {
     Fits(usize),
     TooLong,

@@ -1,6 +1,8 @@
 // Writes a line for every string of up to four bytes over the six a 1 _ . C3 A9, by length and then in the order of the
 // six: the string, whether it is a simple name, a name and a namespace, and its full names in "", "n" and "n.m". Bytes
 // are written in hex, none as `-`, and so is a full name of what is no name.
+#![tactic(auto)]
+
 ghost use Rattle.std.specs.Prelude.{◌≤◌};
 
 use libc::STDOUT_FILENO;

@@ -1,4 +1,6 @@
 // The examples of docs/NAMES.md.
+#![tactic(auto)]
+
 fn main() {
     replays::run();
 }

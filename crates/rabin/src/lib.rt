@@ -1,4 +1,6 @@
 // The Rabin fingerprint, CRC-64-AVRO, with a signed state of 64 bits.
+#![tactic(auto)]
+
 mod octets;
 mod table;
 
@@ -10,7 +12,7 @@ use octets::octets;
 use table::entries;
 
 // The state after some bytes.
-#[derive(Drop)]
+#[derive(Clone, Copy)]
 pub struct Rabin {
     pub state: i64,
 }

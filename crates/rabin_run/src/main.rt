@@ -1,5 +1,7 @@
 // Writes fingerprints, a line each: the signed number and its eight bytes, lowest first. The inputs are no bytes, 95, 15, "hello world",
 // each single byte, and the first 1,000 bytes of the sequence 0, 1, .., 255, 0, ..
+#![tactic(auto)]
+
 use rabin::Rabin;
 
 fn main() {

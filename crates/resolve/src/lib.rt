@@ -1,4 +1,6 @@
 // The rules that the rows of a declaration keep, and resolution of names over the rows of a set.
+#![tactic(auto)]
+
 mod clash;
 mod declaration;
 mod defaults;
@@ -14,7 +16,7 @@ pub use kinds::is_kind;
 pub use names::{definition_of, first_fault, is_defined};
 
 // What became of a declaration's names: each resolves, or the first fault, with the position that its row recorded.
-#[derive(Drop)]
+#[derive(Clone, Copy)]
 pub enum Resolution {
     Resolved,
     Faulty(Fault),

@@ -1,5 +1,7 @@
 // Stores the sets that standard input describes, damages them, and prints for each whether it is well formed.
 // docs/vectors/wellformed.py says what a line of the input means.
+#![tactic(auto)]
+
 mod damage;
 mod lines;
 

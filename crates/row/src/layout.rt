@@ -1,7 +1,7 @@
 // Where things lie in a set's memory: docs/LAYOUT.md in numbers.
 use answer::Counts;
 
-#[derive(Drop)]
+#[derive(Clone, Copy)]
 pub struct Layout {}
 
 impl Layout {

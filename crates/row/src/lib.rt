@@ -1,4 +1,6 @@
 // Rows, and the memory of a set, whose layout is that of docs/LAYOUT.md.
+#![tactic(auto)]
+
 pub mod kind;
 pub mod layout;
 mod number;
@@ -10,7 +12,7 @@ pub use kind::Kind;
 pub use layout::Layout;
 
 // A row by value, all but its strings. The size is that of a fixed, or the position of a field's default.
-#[derive(Drop)]
+#[derive(Clone, Copy)]
 pub struct Entry {
     pub kind: Kind,
     pub depth: u16,

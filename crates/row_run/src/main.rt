@@ -1,5 +1,7 @@
 // Writes a set of hand-made rows by the calls of `row`, and prints its memory in hex;
 // then changes single bytes, and says for each whether the memory is still an encoding.
+#![tactic(auto)]
+
 mod dump;
 mod pokes;
 mod rows;

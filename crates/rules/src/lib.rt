@@ -1,4 +1,6 @@
 // The rules that look at several strings of a declaration's text and need no row: 11, 13 to 16, 19.
+#![tactic(auto)]
+
 mod bytes;
 pub mod fields;
 pub mod members;

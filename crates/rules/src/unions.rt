@@ -96,7 +96,7 @@ pub fn new_kind(text: &[u8], ends: &[u16], standing: Standing, kind: Kind) -> Ch
 // ---- schemas that are told apart by their full name
 
 // What tells a schema apart: the number of its kind, or its full name, which is in a buffer unless it is too long to be kept.
-#[derive(Drop)]
+#[derive(Clone, Copy)]
 pub enum Apart {
     Kind(u8),
     Name(usize),

@@ -1,5 +1,7 @@
 // Scans each text of a list on standard input, and writes for each what the scan finds.
 // A line is a text in hexadecimal digits, in lower case, or `-` for the text of no bytes.
+#![tactic(auto)]
+
 ghost use Rattle.std.specs.Prelude.{◌<◌, ◌≤◌, length};
 
 use answer::Why;
@@ -8,7 +10,7 @@ use json_scan::Scan;
 const OUT: i32 = 1;
 
 // A line so far: how many bytes of its text are there, and the digit that waits for its second, 16 if none does.
-#[derive(Drop)]
+#[derive(Clone, Copy)]
 struct Line {
     n: usize,
     high: u8,

@@ -1,4 +1,6 @@
 // From a declaration's text to its rows.
+#![tactic(auto)]
+
 mod definitions;
 mod fields;
 mod names;

@@ -1,6 +1,8 @@
 // Reads declarations, a line of hex each, and writes for each its rows and how many rows and string bytes there are, or its
 // first fault. Rows that do not fit a set are left out. Of a line that does not fit the buffer the first bytes are read: they
 // are more than a text may have.
+#![tactic(auto)]
+
 use answer::Counts;
 use row::Layout;
 use schema::Walked;

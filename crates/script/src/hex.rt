@@ -7,7 +7,7 @@ use crate::numbers::{inside, is_digit};
 use ground::{copy, same};
 
 // How many bytes a word stands for, if it stands for bytes.
-#[derive(Drop)]
+#[derive(Clone, Copy)]
 pub enum Unhexed {
     Bytes(usize),
     NotHex,

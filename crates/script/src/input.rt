@@ -6,7 +6,7 @@ use libc::STDIN_FILENO;
 
 // A line without its LF: the buffer's bytes from `from` to `to`. Those from `next` to `end` were read and are left.
 // A line that does not fit the buffer with its LF is cut, and its rest is skipped. At the input's end no line is there.
-#[derive(Drop)]
+#[derive(Clone, Copy)]
 pub struct Line {
     pub there: bool,
     pub from: usize,

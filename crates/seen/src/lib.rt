@@ -1,5 +1,7 @@
 // A table of the marks of strings, in lent memory of any size, zeros at first. A string that is not marked is surely new; one that is has to be
 // looked for.
+#![tactic(auto)]
+
 ghost use Rattle.std.specs.Prelude.{◌≡◌, ◌<◌, ◌≤◌, length};
 ghost use Rattle.seen.specs.Seen.{span, Sized, place_in, next_of, found_in, is_marked, entered};
 
@@ -19,7 +21,7 @@ const SOME: usize = 4096;
 const MANY: usize = 8192;
 
 // Where a mark is looked for: it is there, or an empty place is.
-#[derive(Drop)]
+#[derive(Clone, Copy)]
 pub enum Found {
     Marked,
     Free(usize),

@@ -1,4 +1,6 @@
 // A set of declarations in lent memory: open, put, full names.
+#![tactic(auto)]
+
 mod append;
 mod calls;
 mod names;

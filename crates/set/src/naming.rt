@@ -2,7 +2,7 @@
 use answer::Refusal;
 
 // What the call says that tells why there is no full name: the length of the one that there is, or a refusal.
-#[derive(Drop)]
+#[derive(Clone, Copy)]
 pub enum Naming {
     Named(usize),
     Refused(Refusal),

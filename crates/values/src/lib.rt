@@ -1,4 +1,6 @@
 // Values by their places in a text: what a value is, and the value under a key of an object.
+#![tactic(auto)]
+
 mod members;
 mod shapes;
 

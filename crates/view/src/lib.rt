@@ -1,4 +1,6 @@
 // Views of scanned JSON text by position. On any other bytes, and at any position, they still end and stay within the text.
+#![tactic(auto)]
+
 mod bytes;
 pub mod elements;
 pub mod ends;

@@ -17,7 +17,7 @@ fn wide(b: u8) -> u64
 const START: u64 = 1442695040888963407;
 
 // In a string: the mark of the bytes that were read, but for the last n, at most two, whose number is w.
-#[derive(Drop)]
+#[derive(Clone, Copy)]
 pub struct Marking {
     pub h: u64,
     pub w: u64,

@@ -14,7 +14,7 @@ use super::strings::{read_copy, read_is};
 use ground::{byte_at, same};
 
 // The values of an object's members, by the keys that a declaration looks at; of two under one key the last.
-#[derive(Drop)]
+#[derive(Clone, Copy)]
 pub struct Members {
     pub typed: Spot,
     pub name: Spot,
@@ -63,14 +63,14 @@ impl Members {
 }
 
 // Of these the two that name an object.
-#[derive(Drop)]
+#[derive(Clone, Copy)]
 pub struct Titles {
     pub name: Spot,
     pub aliases: Spot,
 }
 
 // A member: the places of its key and of its value.
-#[derive(Drop)]
+#[derive(Clone, Copy)]
 pub enum Entry {
     Of(usize, usize),
     Last,

@@ -6,7 +6,7 @@ use super::bytes::is_digit;
 use ground::byte_at;
 
 // What a value is. `Nothing`: no value starts here.
-#[derive(Drop)]
+#[derive(Clone, Copy)]
 pub enum Shape {
     Text,
     Number,

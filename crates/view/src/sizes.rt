@@ -6,7 +6,7 @@ use super::bytes::{is_delimiter, is_digit};
 use ground::byte_at;
 
 // The value of a size literal.
-#[derive(Drop)]
+#[derive(Clone, Copy)]
 pub enum Size {
     Value(u64),
     NoSize,

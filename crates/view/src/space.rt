@@ -5,7 +5,7 @@ ghost use Rattle.view.specs.Values.{skip_of, value_start};
 use super::bytes::is_space;
 
 // A place in the text, or none.
-#[derive(Drop)]
+#[derive(Clone, Copy)]
 pub enum Spot {
     At(usize),
     Nowhere,

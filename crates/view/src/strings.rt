@@ -6,7 +6,7 @@ ghost use Rattle.view.specs.Strings.{hex_of, unit_at, utf8_of, short_of, is_stop
 use ground::byte_at;
 
 // A part of a string, undone: its first n bytes, and where the next part stands.
-#[derive(Drop)]
+#[derive(Clone, Copy)]
 pub struct Piece {
     pub next: usize,
     pub n: usize,
@@ -14,14 +14,14 @@ pub struct Piece {
 }
 
 // In a string: the part at `at`, of which the first `passed` bytes are read.
-#[derive(Drop)]
+#[derive(Clone, Copy)]
 pub struct Cursor {
     pub at: usize,
     pub passed: usize,
 }
 
 // The next byte of a string, and what comes behind it.
-#[derive(Drop)]
+#[derive(Clone, Copy)]
 pub enum Step {
     Byte(u8, Cursor),
     End,

@@ -1,5 +1,7 @@
 // Reads JSON texts, a line of hex each, and writes what the views say of the text's value and, indented, of each of its
 // elements or named members.
+#![tactic(auto)]
+
 ghost use Rattle.std.specs.Prelude.{◌≡◌, ◌<◌, ◌≤◌, length};
 ghost use Rattle.json_scan.specs.Json.{longest};
 ghost use Rattle.view.specs.Known.{Known};

@@ -1,4 +1,6 @@
 // The walk of a datum by the rows of its type.
+#![tactic(auto)]
+
 mod frames;
 mod leaves;
 mod rows;
