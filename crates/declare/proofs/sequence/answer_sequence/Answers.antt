@@ -1,0 +1,12 @@
+-- `declare::sequence::answer_sequence` is safe, and ends by its count of turns.
+-- Assumes nothing.
+use mathlib.Core.Path.{◌≡◌, refl}
+use lib.ListN.{length}
+use borrow.Author.Rules.{rules}
+use Rattle.declare.proofs.sequence.answer_sequence.Goals as goal
+
+pub loop-turns-init : goal.loop-turns-init
+loop-turns-init c = (refl, refl, refl)
+
+pub loop-turns-preserved : goal.loop-turns-preserved
+loop-turns-preserved c = (search rules, search rules, search rules)

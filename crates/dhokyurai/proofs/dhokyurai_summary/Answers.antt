@@ -1,0 +1,9 @@
+-- `dhokyurai::dhokyurai_summary` meets its contract.
+-- Assumes nothing.
+use mathlib.Core.Path.{◌∙◌}
+use Rattle.answer.proofs.Laws.{number, first, second}
+use borrow.Author.Rules.{rules}
+use Rattle.dhokyurai.proofs.dhokyurai_summary.Goals as goal
+
+pub returns : goal.returns
+returns c = let e = c.of_offsets-n.ensures ∙ c.summary.ensures.0 in (number e, c.summary.ensures.1, first e, second e)

@@ -1,0 +1,12 @@
+-- `dhokyurai::numbers::of_offsets` meets its contract.
+-- Assumes nothing.
+use mathlib.Core.Path.{sym, ap, ◌∙◌}
+use Rattle.summary.specs.Calls.{numbers_of_offsets}
+use borrow.Author.Rules.{rules}
+use Rattle.dhokyurai.proofs.numbers.of_offsets.Goals as goal
+
+pub returns-in-Refused : goal.returns-in-Refused
+returns-in-Refused c = c.refused.ensures ∙ sym (ap numbers_of_offsets c.in-Refused.is)
+
+pub returns-in-Given : goal.returns-in-Given
+returns-in-Given c = sym (ap numbers_of_offsets c.in-Given.is)

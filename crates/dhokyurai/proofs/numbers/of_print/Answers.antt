@@ -1,0 +1,13 @@
+-- `dhokyurai::numbers::of_print` meets its contract.
+-- Assumes nothing.
+use mathlib.Core.Path.{sym, ap, ◌∙◌}
+use Rattle.canonical.specs.Calls.{numbers_of_print}
+use Rattle.canonical.specs.declared.answers.Print.{Print}
+use borrow.Author.Rules.{rules}
+use Rattle.dhokyurai.proofs.numbers.of_print.Goals as goal
+
+pub returns-in-Refused : goal.returns-in-Refused
+returns-in-Refused c = c.refused.ensures ∙ sym (ap (λ (p : Print). (numbers_of_print p).0) c.in-Refused.is)
+
+pub returns-in-Fingerprint : goal.returns-in-Fingerprint
+returns-in-Fingerprint c = c.accepted.ensures ∙ sym (ap (λ (p : Print). (numbers_of_print p).0) c.in-Fingerprint.is)

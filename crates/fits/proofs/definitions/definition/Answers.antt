@@ -1,0 +1,11 @@
+-- `fits::definitions::definition` meets its contract: what the table holds is the definition, and what is noted is the one that was found.
+-- Assumes nothing.
+use Rattle.fits.proofs.DefinitionLaws.{found_held, found_noted}
+use borrow.Author.Rules.{rules}
+use Rattle.fits.proofs.definitions.definition.Goals as goal
+
+pub returns-then-known-ne0 : goal.returns-then-known-ne0
+returns-then-known-ne0 c = (found_held _ _ c.requires.3 _ c.held-known.ensures c.if-known-ne0.true, c.requires.3)
+
+pub returns : goal.returns
+returns c = (c.definition_of-d.ensures.1, found_noted _ _ c.requires.3 _ _ c.definition_of-d.ensures.1 c.keep.ensures)

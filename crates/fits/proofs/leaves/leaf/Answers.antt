@@ -1,0 +1,85 @@
+-- `fits::leaves::leaf` meets its contract: an arm for each kind.
+-- Assumes nothing.
+use mathlib.Core.Path.{refl}
+use borrow.Author.Rules.{rules}
+use Rattle.fits.proofs.FitLaws.{plain_kind, no_leaf, sized}
+use Rattle.fits.specs.Fits.{kind_fits}
+use Rattle.fits.specs.Steps.{is_nested}
+use Rattle.resolve.specs.Kinds.{is_kind}
+use Rattle.fits.proofs.leaves.leaf.Goals as goal
+
+pub returns-in-Null : goal.returns-in-Null
+unfolding kind_fits
+returns-in-Null c = λ go h. plain_kind _ _ _ _ _ c.requires.2 c.kind_at.ensures c.in-Null.is go c.is_null.ensures
+
+pub returns-in-Boolean : goal.returns-in-Boolean
+unfolding kind_fits
+returns-in-Boolean c = λ go h. plain_kind _ _ _ _ _ c.requires.2 c.kind_at.ensures c.in-Boolean.is go c.is_boolean.ensures
+
+pub returns-in-Int : goal.returns-in-Int
+unfolding kind_fits
+returns-in-Int c = λ go h. plain_kind _ _ _ _ _ c.requires.2 c.kind_at.ensures c.in-Int.is go c.is_whole.ensures
+
+pub returns-in-Long : goal.returns-in-Long
+unfolding kind_fits
+returns-in-Long c = λ go h. plain_kind _ _ _ _ _ c.requires.2 c.kind_at.ensures c.in-Long.is go c.is_whole-in-Long.ensures
+
+pub returns-in-Float : goal.returns-in-Float
+unfolding kind_fits
+returns-in-Float c = λ go h. plain_kind _ _ _ _ _ c.requires.2 c.kind_at.ensures c.in-Float.is go c.is_number.ensures
+
+pub returns-in-Double : goal.returns-in-Double
+unfolding kind_fits
+returns-in-Double c = λ go h. plain_kind _ _ _ _ _ c.requires.2 c.kind_at.ensures c.in-Double.is go c.is_number-in-Double.ensures
+
+pub returns-in-Bytes : goal.returns-in-Bytes
+unfolding kind_fits
+returns-in-Bytes c = λ go h. plain_kind _ _ _ _ _ c.requires.2 c.kind_at.ensures c.in-Bytes.is go c.is_bytes.ensures
+
+pub returns-in-String : goal.returns-in-String
+unfolding kind_fits
+returns-in-String c = λ go h. plain_kind _ _ _ _ _ c.requires.2 c.kind_at.ensures c.in-String.is go c.is_string.ensures
+
+pub returns-in-Fixed : goal.returns-in-Fixed
+unfolding kind_fits
+returns-in-Fixed c = λ go h. plain_kind _ _ _ _ _ c.requires.2 c.kind_at.ensures c.in-Fixed.is go (sized _ _ c.size_at.ensures c.is_fixed.ensures)
+
+pub returns-in-Enum : goal.returns-in-Enum
+unfolding kind_fits
+returns-in-Enum c = λ go h. plain_kind _ _ _ _ _ c.requires.2 c.kind_at.ensures c.in-Enum.is go c.is_of_enum.ensures
+
+pub returns-in-Array : goal.returns-in-Array
+unfolding is_nested is_kind
+returns-in-Array c = λ go h. no_leaf c.kind_at.ensures c.in-Array.is refl h
+
+pub returns-in-Map : goal.returns-in-Map
+unfolding is_nested is_kind
+returns-in-Map c = λ go h. no_leaf c.kind_at.ensures c.in-Map.is refl h
+
+pub returns-in-Record : goal.returns-in-Record
+unfolding is_nested is_kind
+returns-in-Record c = λ go h. no_leaf c.kind_at.ensures c.in-Record.is refl h
+
+pub returns-in-Union : goal.returns-in-Union
+unfolding kind_fits
+returns-in-Union c = λ go h. plain_kind _ _ _ _ _ c.requires.2 c.kind_at.ensures c.in-Union.is go refl
+
+pub returns-in-Reference : goal.returns-in-Reference
+unfolding kind_fits
+returns-in-Reference c = λ go h. plain_kind _ _ _ _ _ c.requires.2 c.kind_at.ensures c.in-Reference.is go refl
+
+pub returns-in-Field : goal.returns-in-Field
+unfolding kind_fits
+returns-in-Field c = λ go h. plain_kind _ _ _ _ _ c.requires.2 c.kind_at.ensures c.in-Field.is go refl
+
+pub returns-in-Symbol : goal.returns-in-Symbol
+unfolding kind_fits
+returns-in-Symbol c = λ go h. plain_kind _ _ _ _ _ c.requires.2 c.kind_at.ensures c.in-Symbol.is go refl
+
+pub returns-in-Alias : goal.returns-in-Alias
+unfolding kind_fits
+returns-in-Alias c = λ go h. plain_kind _ _ _ _ _ c.requires.2 c.kind_at.ensures c.in-Alias.is go refl
+
+pub returns-in-FieldAlias : goal.returns-in-FieldAlias
+unfolding kind_fits
+returns-in-FieldAlias c = λ go h. plain_kind _ _ _ _ _ c.requires.2 c.kind_at.ensures c.in-FieldAlias.is go refl

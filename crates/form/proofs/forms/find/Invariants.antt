@@ -1,0 +1,14 @@
+-- `form::forms::find` meets its contract: the form of the schema that is left to look at is the whole one's.
+-- Assumes nothing.
+use mathlib.Core.Path.{◌≡◌, refl}
+use borrow.Author.Rules.{rules}
+use borrow.Author.Tests.{not-false, not-true}
+use Rattle.form.proofs.Shapes.{find_missing, find_nested, find_object, find_other, find_out}
+use Rattle.form.specs.Forms.{form_of, form_within}
+use Rattle.form.proofs.forms.find.Given as goal
+
+abbrev pub invariant-loop-left : goal.invariant-loop-left
+invariant-loop-left l = form_within l.left l.text l.p ≡ form_of l.text l.at
+
+abbrev pub decreases-loop-left : goal.decreases-loop-left
+decreases-loop-left l = l.left

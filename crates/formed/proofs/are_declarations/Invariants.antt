@@ -1,0 +1,19 @@
+-- `formed::are_declarations` meets its contract: the answer for the places that are left is the answer.
+-- Assumes nothing.
+use mathlib.Core.Path.{◌≡◌, sym, ◌∙◌}
+use Prim.Native.Nat.{◌+◌, ◌-◌, ◌≤◌}
+use borrow.Author.Tests.{not-true, not-false}
+use Rattle.name.specs.Name.{every}
+use Rattle.row.specs.Layout.{row_limit}
+use Rattle.row.specs.Sets.{decode}
+use Rattle.resolve.specs.Rules.{is_declaration}
+use Rattle.resolve.specs.Steps.{Sized}
+use Rattle.formed.proofs.DecodeLaws.{rows_left, left, places_start, places_room, places_bad, places_fit, places_more, places_end}
+use borrow.Author.Rules.{rules}
+use Rattle.formed.proofs.are_declarations.Given as goal
+
+abbrev pub invariant-loop-place : goal.invariant-loop-place
+invariant-loop-place l = (l.place ≤ l.n) × (l.start + rows_left l.mem l.place (l.n - l.place) ≤ row_limit) × (every is_declaration (decode l.mem) ≡ every is_declaration (left l.mem l.place (l.n - l.place) l.start)) × Sized l.first l.next
+
+abbrev pub decreases-loop-place : goal.decreases-loop-place
+decreases-loop-place l = l.n - l.place

@@ -1,0 +1,17 @@
+-- `formed::places_fit` meets its contract: the answer for the places that are left is the answer.
+-- Assumes nothing.
+use mathlib.Core.Path.{◌≡◌}
+use mathlib.Core.List.{[]}
+use Prim.Native.Nat.{◌+◌, ◌-◌, ◌≤◌}
+use Rattle.row.specs.Layout.{row_limit}
+use Rattle.row.specs.Sets.{rows_from, decode}
+use Rattle.formed.specs.WellFormed.{defaults_fit}
+use Rattle.formed.proofs.DecodeLaws.{rows_left, left, places_start, places_room, places_fit, fitting_start, fitting_bad, fitting_more, fitting_end}
+use borrow.Author.Rules.{rules}
+use Rattle.formed.proofs.places_fit.Given as goal
+
+abbrev pub invariant-loop-place : goal.invariant-loop-place
+invariant-loop-place l = (l.place ≤ l.n) × (l.start + rows_left l.mem l.place (l.n - l.place) ≤ row_limit) × (defaults_fit [] (decode l.mem) ≡ defaults_fit (rows_from l.mem l.start 0) (left l.mem l.place (l.n - l.place) l.start))
+
+abbrev pub decreases-loop-place : goal.decreases-loop-place
+decreases-loop-place l = l.n - l.place

@@ -1,0 +1,16 @@
+-- `json::is_hex` meets its contract. Assumes nothing.
+use mathlib.Core.Path.{sym, ◌∙◌}
+use borrow.Author.Rules.{rules}
+use Rattle.json_scan.proofs.byte.is_hex.Reads as reads
+use Rattle.json_scan.proofs.byte.is_hex.Lts as lts
+use Rattle.json_scan.proofs.byte.inside.Reads as inside-reads
+use Rattle.json_scan.proofs.byte.is_hex.Goals as goal
+
+pub returns-then-inside : goal.returns-then-inside
+returns-then-inside c = simp (sym c.inside.ensures ∙ c.if-inside.true)
+
+pub returns-then-inside-2 : goal.returns-then-inside-2
+returns-then-inside-2 c = simp (sym c.inside.ensures ∙ c.if-inside.false, sym c.inside-else-inside.ensures ∙ c.if-inside-2.true)
+
+pub returns-else-inside-2 : goal.returns-else-inside-2
+returns-else-inside-2 c = simp (sym c.inside.ensures ∙ c.if-inside.false, sym c.inside-else-inside.ensures ∙ c.if-inside-2.false) c.inside-else-inside-2.ensures

@@ -1,0 +1,29 @@
+-- `json::number` meets its contract. Assumes nothing.
+use mathlib.Core.Path.{sym, ◌∙◌}
+use native.Mathlib.Omega.{arith}
+use Rattle.ground.proofs.Laws.{byte_at_lem}
+use Rattle.json_scan.proofs.Items.{lt_of_byte}
+use Rattle.json_scan.proofs.Numbers.{from_nought, from_digits, no_digits}
+use borrow.Author.Rules.{rules}
+use Rattle.json_scan.proofs.number.number.Reads as reads
+use Rattle.json_scan.proofs.number.number.Lts as lts
+use Rattle.ground.proofs.byte_at.Reads as byte-at-reads
+use Rattle.json_scan.proofs.number.fraction.Reads as fraction-reads
+use Rattle.json_scan.proofs.number.some_digits.Reads as some-digits-reads
+use Rattle.json_scan.proofs.number.number.Goals as goal
+
+pub overflow_add-at : goal.overflow_add-at
+overflow_add-at c =
+    let h = lt_of_byte c.args.text.now c.args.at 48 (sym ((c.byte_at.ensures ∙ byte_at_lem _ _)) ∙ c.if-byte_at-eq48.true) (omega arith) in
+    omega arith
+
+pub returns-then-byte_at-eq48 : goal.returns-then-byte_at-eq48
+returns-then-byte_at-eq48 c =
+    let b = sym ((c.byte_at.ensures ∙ byte_at_lem _ _)) ∙ c.if-byte_at-eq48.true in
+    from_nought c.args.text.now c.args.at b (lt_of_byte c.args.text.now c.args.at 48 b (omega arith)) _ c.fraction.ensures
+
+pub returns-in-Next : goal.returns-in-Next
+returns-in-Next c = from_digits c.args.text.now c.args.at (λ b. c.if-byte_at-eq48.false ((c.byte_at.ensures ∙ byte_at_lem _ _) ∙ b)) _ c.some_digits.ensures _ c.in-Next.is _ c.fraction-in-Next.ensures
+
+pub returns-in-Fails : goal.returns-in-Fails
+returns-in-Fails c = no_digits c.args.text.now c.args.at (λ b. c.if-byte_at-eq48.false ((c.byte_at.ensures ∙ byte_at_lem _ _) ∙ b)) _ c.some_digits.ensures _ c.in-Fails.is

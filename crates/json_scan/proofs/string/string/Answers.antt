@@ -1,0 +1,52 @@
+-- `json::string` meets its contract. Assumes nothing.
+use borrow.Author.Rules.{rules}
+use mathlib.Core.Path.{refl}
+use Prim.Native.Nat.{◌-◌, ◌≤◌, ◌<◌}
+use native.Mathlib.Omega.{arith}
+use lib.ListN.{length}
+use Rattle.json_scan.specs.Json.{str, plain, closed}
+use Rattle.json_scan.proofs.Readers.{reads_is}
+use Rattle.json_scan.proofs.Strings.{Inner, inner_past, inner_shut, inner_on, inner_bad, inner_end}
+use Rattle.json_scan.proofs.string.string.Reads as reads
+use Rattle.json_scan.proofs.string.string.Lts as lts
+use Rattle.json_scan.proofs.step.bad.Reads as bad-reads
+use Rattle.json_scan.proofs.string.unescaped.Reads as unescaped-reads
+use Rattle.json_scan.proofs.string.piece.Reads as piece-reads
+use Rattle.json_scan.proofs.string.string.Goals as goal
+
+pub loop-at-init : goal.loop-at-init
+loop-at-init c = record { low = omega arith; high = omega arith; same = λ w k. refl }
+
+pub returns-then-at-text : goal.returns-then-at-text
+returns-then-at-text c =
+    let i = inner_past c.args.text.now c.args.from c.loop-at.at c.loop-at.invariant _ c.unescaped-at.ensures in
+    λ w. reads_is c.args.text.now c.args.from (str w plain) (closed w) _ _ c.bad.ensures (inner_end c.args.text.now c.args.from _ i c.if-at-text.true w)
+
+pub returns-then-b-eq34 : goal.returns-then-b-eq34
+returns-then-b-eq34 c =
+    let i = inner_past c.args.text.now c.args.from c.loop-at.at c.loop-at.invariant _ c.unescaped-at.ensures in
+    inner_shut c.args.text.now c.args.from _ i c.if-at-text.false c.if-b-eq34.true
+
+pub piece-requires : goal.piece-requires
+piece-requires c = (search rules, (refl, c.if-b-eq34.false))
+
+pub loop-at-smaller : goal.loop-at-smaller
+loop-at-smaller c =
+    let i = inner_past c.args.text.now c.args.from c.loop-at.at c.loop-at.invariant _ c.unescaped-at.ensures in
+    let o = inner_on c.args.text.now c.args.from _ i _ c.piece.ensures _ c.in-Next.is in
+    let h : c.unescaped-at.result < c.in-Next.e = o.1 in
+    let g : c.in-Next.e ≤ length c.args.text.now = o.2 in
+    omega arith
+
+pub loop-at-preserved : goal.loop-at-preserved
+loop-at-preserved c =
+    let i = inner_past c.args.text.now c.args.from c.loop-at.at c.loop-at.invariant _ c.unescaped-at.ensures in
+    (inner_on c.args.text.now c.args.from _ i _ c.piece.ensures _ c.in-Next.is).0
+
+pub returns-in-Fails : goal.returns-in-Fails
+returns-in-Fails c =
+    let i = inner_past c.args.text.now c.args.from c.loop-at.at c.loop-at.invariant _ c.unescaped-at.ensures in
+    inner_bad c.args.text.now c.args.from _ i _ c.piece.ensures _ c.in-Fails.is
+
+pub returns : goal.returns
+returns c = λ w. reads_is c.args.text.now c.args.from (str w plain) (closed w) _ _ c.bad-2.ensures (inner_end c.args.text.now c.args.from c.loop-at.at c.loop-at.invariant c.loop-at-test.false w)

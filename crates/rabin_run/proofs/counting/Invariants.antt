@@ -1,0 +1,11 @@
+-- `rabin_run::counting` is safe and ends.
+-- Assumes nothing.
+use borrow.Author.Rules.{rules}
+use Prim.Native.Nat.{◌≤◌, ◌-◌}
+use Rattle.rabin_run.proofs.counting.Given as goal
+
+abbrev pub invariant-loop-i : goal.invariant-loop-i
+invariant-loop-i l = (l.i ≤ 1000)
+
+abbrev pub decreases-loop-i : goal.decreases-loop-i
+decreases-loop-i l = 1000 - l.i

@@ -1,0 +1,19 @@
+-- `resolve::clash::is_met` meets its contract: the answer for the chain that is left is the answer.
+-- Assumes nothing.
+use mathlib.Core.Path.{◌≡◌, sym, ap, ◌∙◌}
+use Prim.Native.Nat.{◌≤◌}
+use native.Mathlib.Omega.{arith}
+use lib.ListN.{get_or}
+use Rattle.chains.proofs.Laws.{walk_far, walk_hit, walk_on, walk_none}
+use Rattle.chains.specs.Chains.{on_chain}
+use Rattle.row.specs.Memory.{entry_at}
+use Rattle.resolve.specs.Steps.{meets_at}
+use Rattle.resolve.proofs.ChainLaws.{meets_is, meets_low}
+use borrow.Author.Rules.{rules}
+use Rattle.resolve.proofs.clash.is_met.Given as goal
+
+abbrev pub invariant-loop-h : goal.invariant-loop-h
+invariant-loop-h l = (l.left ≤ l.j) × (on_chain (meets_at l.mem (entry_at l.mem l.i).kind l.depth l.i l.j) l.next l.left l.h ≡ on_chain (meets_at l.mem (entry_at l.mem l.i).kind l.depth l.i l.j) l.next l.j (get_or l.first l.slot 0))
+
+abbrev pub decreases-loop-h : goal.decreases-loop-h
+decreases-loop-h l = l.left

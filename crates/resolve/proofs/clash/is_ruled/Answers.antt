@@ -1,0 +1,18 @@
+-- `resolve::clash::is_ruled` meets its contract.
+-- Assumes nothing.
+use mathlib.Core.Path.{sym, ◌∙◌}
+use borrow.Author.Rules.{rules}
+use Rattle.resolve.specs.Steps.{is_ruled}
+use Rattle.resolve.proofs.clash.is_ruled.Goals as goal
+
+pub returns-then-is_kind : goal.returns-then-is_kind
+unfolding is_ruled
+returns-then-is_kind c = λ k e. rw (sym (c.is_kind.ensures k e) ∙ c.if-is_kind.true)
+
+pub returns-then-is_kind-2 : goal.returns-then-is_kind-2
+unfolding is_ruled
+returns-then-is_kind-2 c = λ k e. rw (sym (c.is_kind.ensures k e) ∙ c.if-is_kind.false, sym (c.is_kind-2.ensures k e) ∙ c.if-is_kind-2.true)
+
+pub returns : goal.returns
+unfolding is_ruled
+returns c = λ k e. rw (sym (c.is_kind.ensures k e) ∙ c.if-is_kind.false, sym (c.is_kind-2.ensures k e) ∙ c.if-is_kind-2.false) (c.is_kind-3.ensures k e)

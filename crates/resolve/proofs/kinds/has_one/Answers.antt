@@ -1,0 +1,18 @@
+-- `resolve::kinds::has_one` meets its contract.
+-- Assumes nothing.
+use mathlib.Core.Path.{sym, ◌∙◌}
+use Rattle.resolve.specs.Kinds.{has_one}
+use borrow.Author.Rules.{rules}
+use Rattle.resolve.proofs.kinds.has_one.Goals as goal
+
+pub returns-then-is_kind : goal.returns-then-is_kind
+unfolding has_one
+returns-then-is_kind c = λ k e. rw (sym (c.is_kind.ensures k e) ∙ c.if-is_kind.true)
+
+pub returns-then-is_kind-2 : goal.returns-then-is_kind-2
+unfolding has_one
+returns-then-is_kind-2 c = λ k e. rw (sym (c.is_kind.ensures k e) ∙ c.if-is_kind.false, sym (c.is_kind-2.ensures k e) ∙ c.if-is_kind-2.true)
+
+pub returns : goal.returns
+unfolding has_one
+returns c = λ k e. rw (sym (c.is_kind.ensures k e) ∙ c.if-is_kind.false, sym (c.is_kind-2.ensures k e) ∙ c.if-is_kind-2.false) (c.is_kind-3.ensures k e)

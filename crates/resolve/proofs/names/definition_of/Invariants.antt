@@ -1,0 +1,16 @@
+-- `resolve::names::definition_of` meets its contract: the definition among the rows that are left is the definition.
+-- Assumes nothing.
+use Prim.Native.Nat.{◌-◌, ◌≤◌}
+use mathlib.Core.Path.{◌≡◌}
+use borrow.Author.Rules.{rules}
+use Rattle.resolve.specs.Resolve.{definition_in}
+use Rattle.resolve.proofs.ResolveLaws.{definition_start, definition_hit, definition_more, definition_end}
+use Rattle.row.specs.Sets.{rows_from}
+use Rattle.row.specs.Memory.{text_at}
+use Rattle.resolve.proofs.names.definition_of.Given as goal
+
+abbrev pub invariant-loop-d : goal.invariant-loop-d
+invariant-loop-d l = (l.d ≤ l.n) × (definition_in (text_at l.mem l.i) (rows_from l.mem l.n 0) ≡ definition_in (text_at l.mem l.i) (rows_from l.mem (l.n - l.d) l.d))
+
+abbrev pub decreases-loop-d : goal.decreases-loop-d
+decreases-loop-d l = l.n - l.d

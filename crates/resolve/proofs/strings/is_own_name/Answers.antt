@@ -1,0 +1,15 @@
+-- `resolve::strings::is_own_name` meets its contract.
+-- Assumes nothing.
+use borrow.Author.Tests.{lt-leb, le-leb}
+use Rattle.name.specs.Full.{is_short}
+use Rattle.resolve.specs.Rules.{is_own_name}
+use borrow.Author.Rules.{rules}
+use Rattle.resolve.proofs.strings.is_own_name.Goals as goal
+
+pub returns-then-s-gt-LONGEST : goal.returns-then-s-gt-LONGEST
+unfolding is_own_name is_short
+returns-then-s-gt-LONGEST c = rw (lt-leb _ _ c.if-s-gt-LONGEST.true)
+
+pub returns : goal.returns
+unfolding is_own_name is_short
+returns c = rw (le-leb _ _ c.if-s-gt-LONGEST.false) c.is_simple.ensures

@@ -1,0 +1,9 @@
+-- `row::read::rows_of` meets its contract: the two bytes of the place.
+-- Assumes nothing.
+use Rattle.row.specs.Memory.{size_at}
+use borrow.Author.Rules.{rules}
+use Rattle.row.proofs.read.rows_of.Goals as goal
+
+pub returns : goal.returns
+unfolding size_at
+returns c = (c.u16_at.ensures, search rules)

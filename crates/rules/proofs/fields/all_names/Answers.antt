@@ -1,0 +1,31 @@
+-- `rules::fields::all_names` meets its contract: what is left of the check, given what was passed, is the whole one.
+-- Assumes nothing.
+use mathlib.Core.Path.{◌≡◌, refl, ap, ◌∙◌}
+use mathlib.Core.List.{[]}
+use lib.ListN.{length}
+use Rattle.rules.proofs.Listed.{fields_left}
+use Rattle.rules.proofs.Entering.{Marked, length_all, fields_bad, fields_done, fields_held, fields_on, fields_start}
+use Rattle.form.proofs.Laws.{visit_less}
+use Rattle.rules.specs.Fields.{field_names_check, taken_among}
+use Rattle.form.specs.Spots.{fields_in}
+use Rattle.view.specs.Elements.{elements_at}
+use borrow.Author.Rules.{rules}
+use Rattle.rules.proofs.fields.all_names.Goals as goal
+
+pub loop-spot-init : goal.loop-spot-init
+loop-spot-init c = (refl, fields_start _ _ c.requires.1 c.first_element-spot.ensures)
+
+pub returns-in_default : goal.returns-in_default
+returns-in_default c = fields_done _ c.loop-spot.invariant.1 c.in_default.is
+
+pub field_name-requires : goal.field_name-requires
+field_name-requires c = (c.requires.0, c.loop-spot.invariant.1.sized, fields_held _ c.loop-spot.invariant.1 c.in-At.is)
+
+pub returns-in-Bad : goal.returns-in-Bad
+returns-in-Bad c = fields_bad _ c.loop-spot.invariant.1 c.in-At.is c.field_name.ensures.0 c.in-Bad.is
+
+pub loop-spot-smaller : goal.loop-spot-smaller
+loop-spot-smaller c = visit_less _ c.in-At.is c.next_element-spot.ensures
+
+pub loop-spot-preserved : goal.loop-spot-preserved
+loop-spot-preserved c = (ap length c.field_name.ensures.1 ∙ length_all _ _ ∙ c.loop-spot.invariant.0, fields_on _ c.loop-spot.invariant.1 c.in-At.is c.field_name.ensures.0 c.in_default-field_name.is c.field_name.ensures.1 c.next_element-spot.ensures)

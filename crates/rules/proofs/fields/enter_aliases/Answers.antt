@@ -1,0 +1,29 @@
+-- `rules::fields::enter_aliases` meets its contract: what is left, entered, gives the whole.
+-- Assumes nothing.
+use mathlib.Core.Path.{◌∙◌, ◌≡◌, ap, refl}
+use mathlib.Core.List.{List, map}
+use Prim.Native.Nat.{ℕ}
+use lib.ListN.{length}
+use Rattle.rules.proofs.Entering.{entered_done, entered_turn}
+use Rattle.form.proofs.Laws.{visit_less}
+use Rattle.seen.proofs.Laws.{length_entered, sized_as}
+use Rattle.rules.specs.Fields.{entered_all}
+use Rattle.view.specs.Strings.{string_at}
+use Rattle.view.specs.Elements.{elements_at}
+use borrow.Author.Rules.{rules}
+use Rattle.rules.proofs.fields.enter_aliases.Goals as goal
+
+pub loop-spot-init : goal.loop-spot-init
+loop-spot-init c = (refl, refl)
+
+pub returns-in_default : goal.returns-in_default
+returns-in_default c = entered_done c.args.text.now _ c.loop-spot.invariant.1 c.in_default.is ∙ ap (λ (l : List ℕ). entered_all c.args.table.now (map (string_at c.args.text.now) l)) c.first_alias-spot.ensures
+
+pub enter-requires : goal.enter-requires
+enter-requires c = sized_as c.requires.1 c.loop-spot.invariant.0
+
+pub loop-spot-smaller : goal.loop-spot-smaller
+loop-spot-smaller c = visit_less _ c.in-At.is c.next_element-spot.ensures
+
+pub loop-spot-preserved : goal.loop-spot-preserved
+loop-spot-preserved c = (ap length c.enter.ensures.1 ∙ length_entered _ _ ∙ c.loop-spot.invariant.0, entered_turn c.args.text.now _ c.loop-spot.invariant.1 c.in-At.is c.mark-own.ensures c.enter.ensures.1 c.next_element-spot.ensures)

@@ -1,0 +1,28 @@
+-- `rules::members::new_until` meets its contract: the members that were passed are new.
+-- Assumes nothing.
+use mathlib.Core.Path.{◌≡◌, refl}
+use lib.ListN.{length}
+use borrow.Author.Tests.{not-false}
+use Rattle.form.proofs.Laws.{visit_less}
+use Rattle.view.specs.Elements.{elements_at}
+use Rattle.rules.proofs.Surely.{Going, going_done, going_held, going_on, going_start, going_stop}
+use borrow.Author.Rules.{rules}
+use Rattle.rules.proofs.members.new_until.Goals as goal
+
+pub loop-spot-init : goal.loop-spot-init
+loop-spot-init c = (refl, going_start _ _ _ c.requires.2 c.first_element-spot.ensures)
+
+pub returns-in_default : goal.returns-in_default
+returns-in_default c = going_done _ _ _ c.loop-spot.invariant.1 c.in_default.is
+
+pub enter_member-requires : goal.enter_member-requires
+enter_member-requires c = (c.requires.0, c.requires.1, c.loop-spot.invariant.1.sized, going_held _ _ _ c.loop-spot.invariant.1 c.in-At.is)
+
+pub returns-then-not-enter_member : goal.returns-then-not-enter_member
+returns-then-not-enter_member c = going_stop _ _ _ c.loop-spot.invariant.1 c.in-At.is
+
+pub loop-spot-smaller : goal.loop-spot-smaller
+loop-spot-smaller c = visit_less _ c.in-At.is c.next_element-spot.ensures
+
+pub loop-spot-preserved : goal.loop-spot-preserved
+loop-spot-preserved c = (search rules, going_on _ _ _ c.loop-spot.invariant.1 c.in-At.is c.enter_member.ensures (not-false _ c.if-not-enter_member.false-raw) c.next_element-spot.ensures)

@@ -1,0 +1,32 @@
+-- `rules::symbols::each_symbol` meets its contract: what is left of the check, given what was passed, is the whole one.
+-- Assumes nothing.
+use mathlib.Core.Path.{◌≡◌, refl, ap, ◌∙◌}
+use mathlib.Core.List.{[], map}
+use lib.ListN.{length}
+use Rattle.rules.proofs.Listed.{symbols_left}
+use Rattle.rules.proofs.Entering.{Marked, symbols_bad, symbols_done, symbols_held, symbols_on, symbols_start}
+use Rattle.form.proofs.Laws.{visit_less}
+use Rattle.seen.proofs.Laws.{length_entered}
+use Rattle.rules.specs.Symbols.{symbols_new}
+use Rattle.view.specs.Strings.{string_at}
+use Rattle.view.specs.Elements.{elements, elements_at}
+use borrow.Author.Rules.{rules}
+use Rattle.rules.proofs.symbols.each_symbol.Goals as goal
+
+pub loop-spot-init : goal.loop-spot-init
+loop-spot-init c = (refl, symbols_start _ _ c.requires.2 c.first_element-spot.ensures)
+
+pub returns-in_default : goal.returns-in_default
+returns-in_default c = symbols_done _ c.loop-spot.invariant.1 c.in_default.is
+
+pub symbol-requires : goal.symbol-requires
+symbol-requires c = (c.requires.0, c.requires.1, c.loop-spot.invariant.1.sized, symbols_held _ c.loop-spot.invariant.1 c.in-At.is)
+
+pub returns-in-Bad : goal.returns-in-Bad
+returns-in-Bad c = symbols_bad _ c.loop-spot.invariant.1 c.in-At.is c.symbol.ensures.0 c.in-Bad.is
+
+pub loop-spot-smaller : goal.loop-spot-smaller
+loop-spot-smaller c = visit_less _ c.in-At.is c.next_element-spot.ensures
+
+pub loop-spot-preserved : goal.loop-spot-preserved
+loop-spot-preserved c = (ap length c.symbol.ensures.1 ∙ length_entered _ _ ∙ c.loop-spot.invariant.0, symbols_on _ c.loop-spot.invariant.1 c.in-At.is c.symbol.ensures.0 c.in_default-symbol.is c.symbol.ensures.1 c.next_element-spot.ensures)

@@ -1,0 +1,31 @@
+-- `schema::names::put_field_aliases` meets its contract: what the rows that are left make of the draft, all make of the first.
+-- Assumes nothing.
+use borrow.Author.Rules.{rules}
+use Rattle.schema.specs.Schema.{field_alias_rows}
+use Rattle.schema.proofs.Steps.{each_done, each_next}
+use Rattle.schema.proofs.Did.{did_none, did_eq, did_stop, did_then}
+use Rattle.schema.specs.Did.{Did}
+use Rattle.schema.specs.Out.{each}
+use Rattle.schema.specs.declared.walked.Walked.{Walked}
+use Rattle.form.proofs.Laws.{visit_less}
+use Rattle.view.specs.Elements.{elements_at}
+use lib.ListN.{length}
+use Prim.Native.Nat.{ℕ}
+use mathlib.Core.List.{List}
+use mathlib.Core.Path.{◌≡◌, refl}
+use Rattle.schema.proofs.names.put_field_aliases.Goals as goal
+
+pub loop-spot-init : goal.loop-spot-init
+loop-spot-init c = (refl, λ m r d. d)
+
+pub returns-in_default : goal.returns-in_default
+returns-in_default c = c.loop-spot.invariant.1 _ _ (did_eq (each_done _ _ c.in_default.is) (did_none _ _))
+
+pub returns-in-Bad : goal.returns-in-Bad
+returns-in-Bad c = c.loop-spot.invariant.1 _ _ (did_eq (each_next _ _ c.in-At.is refl) (did_stop _ _ c.put_field_alias.ensures c.in-Bad.is))
+
+pub loop-spot-smaller : goal.loop-spot-smaller
+loop-spot-smaller c = visit_less _ c.in-At.is c.next_element-spot.ensures
+
+pub loop-spot-preserved : goal.loop-spot-preserved
+loop-spot-preserved c = (search rules, λ m r d. c.loop-spot.invariant.1 m r (did_eq (each_next _ _ c.in-At.is c.next_element-spot.ensures) (did_then _ _ c.put_field_alias.ensures c.in-Read.is d)))

@@ -1,0 +1,38 @@
+-- `schema::names::put_symbols` meets its contract: what the rows that are left make of the draft, all make of the first.
+-- Assumes nothing.
+use borrow.Author.Rules.{rules}
+use Rattle.schema.specs.Schema.{symbol_rows}
+use Rattle.schema.proofs.Leaves.{symbol_put}
+use Rattle.schema.proofs.Steps.{each_done, each_next, AllWithin, within_start, within_first, within_next}
+use Rattle.schema.proofs.Did.{did_none, did_eq, did_then}
+use Rattle.view.proofs.Laws.{left_start}
+use Rattle.schema.specs.Did.{Did}
+use Rattle.schema.specs.Out.{each}
+use Rattle.schema.specs.declared.walked.Walked.{Walked}
+use Rattle.form.proofs.Laws.{visit_less}
+use Rattle.view.specs.Elements.{elements_at}
+use lib.ListN.{length}
+use Prim.Native.Nat.{ℕ}
+use mathlib.Core.List.{List}
+use native.Mathlib.Omega.{arith}
+use mathlib.Core.Path.{◌≡◌, refl, sym, ap}
+use Rattle.schema.proofs.names.put_symbols.Goals as goal
+
+pub loop-spot-init : goal.loop-spot-init
+loop-spot-init c = (refl, within_start _ _ c.first_element-spot.ensures, λ m r d. d)
+
+pub returns-in_default : goal.returns-in_default
+returns-in_default c = did_eq (ap (each _) (sym (left_start _ _ c.first_element-spot.ensures))) (c.loop-spot.invariant.2 _ _ (did_eq (each_done _ _ c.in_default.is) (did_none _ _)))
+
+pub put_string-sum-requires : goal.put_string-sum-requires
+put_string-sum-requires c = let h = within_first _ c.loop-spot.invariant.1 c.in-At.is in (omega arith, omega arith, search rules)
+
+pub loop-spot-smaller : goal.loop-spot-smaller
+loop-spot-smaller c = visit_less _ c.in-At.is c.next_element-spot.ensures
+
+pub loop-spot-preserved : goal.loop-spot-preserved
+loop-spot-preserved c = (
+  search rules,
+  within_next _ c.loop-spot.invariant.1 c.in-At.is c.next_element-spot.ensures,
+  λ m r d. c.loop-spot.invariant.2 m r (did_eq (each_next _ _ c.in-At.is c.next_element-spot.ensures) (did_then _ _ (symbol_put _ _ _ c.put_string-sum.ensures) refl d)),
+)

@@ -1,0 +1,26 @@
+-- `schema::names::put_symbols` meets its contract: what the rows that are left make of the draft, all make of the first.
+-- Assumes nothing.
+use borrow.Author.Rules.{rules}
+use Rattle.schema.specs.Schema.{symbol_rows}
+use Rattle.schema.proofs.Leaves.{symbol_put}
+use Rattle.schema.proofs.Steps.{each_done, each_next, AllWithin, within_start, within_first, within_next}
+use Rattle.schema.proofs.Did.{did_none, did_eq, did_then}
+use Rattle.view.proofs.Laws.{left_start}
+use Rattle.schema.specs.Did.{Did}
+use Rattle.schema.specs.Out.{each}
+use Rattle.schema.specs.declared.walked.Walked.{Walked}
+use Rattle.form.proofs.Laws.{visit_less}
+use Rattle.view.specs.Elements.{elements_at}
+use lib.ListN.{length}
+use Prim.Native.Nat.{ℕ}
+use mathlib.Core.List.{List}
+use native.Mathlib.Omega.{arith}
+use mathlib.Core.Path.{◌≡◌, refl, sym, ap}
+use Rattle.schema.proofs.names.put_symbols.Given as goal
+
+abbrev pub invariant-loop-spot : goal.invariant-loop-spot
+invariant-loop-spot l = (length l.draft ≡ length l.initial.draft) × AllWithin l.text l.spot
+    × ((m : List ℕ) (r : Walked) → Did l.draft l.sum m r (each (symbol_rows l.text l.depth) (elements_at l.text l.spot)) → Did l.initial.draft l.initial.sum m r (each (symbol_rows l.text l.depth) (elements_at l.text l.initial.spot)))
+
+abbrev pub decreases-loop-spot : goal.decreases-loop-spot
+decreases-loop-spot l = length (elements_at l.text l.spot)

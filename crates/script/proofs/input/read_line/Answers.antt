@@ -1,0 +1,13 @@
+-- `script::input::read_line` stays within the buffer, and ends: each turn reads at least one byte.
+-- Assumes nothing.
+use mathlib.Core.Path.{◌≡◌, refl}
+use Prim.Native.Nat.{◌-◌, ◌≤◌}
+use lib.ListN.{length}
+use borrow.Author.Rules.{rules}
+use Rattle.script.proofs.input.read_line.Goals as goal
+
+pub loop-to-init : goal.loop-to-init
+loop-to-init c = (refl, search rules)
+
+pub loop-to-preserved : goal.loop-to-preserved
+loop-to-preserved c = (search rules, search rules)

@@ -1,0 +1,9 @@
+-- `script::output::put_decimal` meets its contract.
+-- Assumes nothing.
+use borrow.Author.Rules.{rules}
+use Rattle.script.proofs.NumberLaws.{decimal_digits}
+use Rattle.script.proofs.Laws.{put_is}
+use Rattle.script.proofs.output.put_decimal.Goals as goal
+
+pub returns : goal.returns
+returns c = put_is (decimal_digits _ _ _ c.decimal-k.ensures.1.0 c.ranges.n.fits c.decimal-k.ensures.1.1) c.put.ensures

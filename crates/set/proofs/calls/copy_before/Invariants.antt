@@ -1,0 +1,13 @@
+-- `set::calls::copy_before` meets its contract.
+-- Assumes nothing.
+use Prim.Native.Nat.{◌-◌, ◌≤◌}
+use Rattle.set.proofs.Rests.{Copied, copied_none, place_asks, copy_asks, copied_more, copied_long, copied_all}
+use borrow.Author.Rules.{rules}
+use native.Mathlib.Omega.{arith}
+use Rattle.set.proofs.calls.copy_before.Given as goal
+
+abbrev pub invariant-loop-i : goal.invariant-loop-i
+invariant-loop-i l = (l.i ≤ l.place) × Copied l.mem l.i l.out l.sum
+
+abbrev pub decreases-loop-i : goal.decreases-loop-i
+decreases-loop-i l = l.place - l.i

@@ -1,0 +1,21 @@
+-- `values::members::under_key` meets its contract: what will be found is the answer.
+-- Assumes nothing.
+use lib.ListN.{length}
+use borrow.Author.Rules.{rules}
+use Rattle.values.proofs.MemberLaws.{Seeking, seek_start, seek_turn, seek_end}
+use Rattle.view.proofs.Laws.{key_of, pass_less}
+use Rattle.view.specs.Strings.{string_at}
+use Rattle.view.specs.Members.{keys_at}
+use Rattle.values.proofs.members.under_key.Goals as goal
+
+pub loop-entry-init : goal.loop-entry-init
+loop-entry-init c = seek_start _ _ _ c.first_member-entry.ensures
+
+pub returns-in_default : goal.returns-in_default
+returns-in_default c = seek_end _ _ _ c.loop-entry.invariant c.in_default.is
+
+pub loop-entry-smaller : goal.loop-entry-smaller
+loop-entry-smaller c = pass_less _ c.loop-entry.invariant.true_entry c.in-Of.is c.next_member-entry.ensures
+
+pub loop-entry-preserved : goal.loop-entry-preserved
+loop-entry-preserved c = seek_turn _ _ _ c.loop-entry.invariant c.in-Of.is c.strings_same-is.ensures c.found_if-found.ensures c.next_member-entry.ensures

@@ -1,0 +1,14 @@
+-- `values::members::under_word` meets its contract: what will be found is the answer.
+-- Assumes nothing.
+use lib.ListN.{length}
+use borrow.Author.Rules.{rules}
+use Rattle.values.proofs.MemberLaws.{Seeking, seek_start, seek_turn, seek_end}
+use Rattle.view.proofs.Laws.{key_of, pass_less}
+use Rattle.view.specs.Members.{keys_at}
+use Rattle.values.proofs.members.under_word.Given as goal
+
+abbrev pub invariant-loop-entry : goal.invariant-loop-entry
+invariant-loop-entry l = Seeking l.text l.word l.at l.found l.entry
+
+abbrev pub decreases-loop-entry : goal.decreases-loop-entry
+decreases-loop-entry l = length (keys_at l.text (key_of l.entry))

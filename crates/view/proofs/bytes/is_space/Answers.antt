@@ -1,0 +1,16 @@
+-- `view::bytes::is_space` meets its contract.
+-- Assumes nothing.
+use borrow.Author.Tests.{eq-eqb, ne_eqb}
+use Rattle.view.proofs.bytes.is_space.Goals as goal
+
+pub returns-then-b-eq32 : goal.returns-then-b-eq32
+returns-then-b-eq32 c = rw (eq-eqb _ _ c.if-b-eq32.true)
+
+pub returns-then-b-eq9 : goal.returns-then-b-eq9
+returns-then-b-eq9 c = rw (ne_eqb _ _ c.if-b-eq32.false, eq-eqb _ _ c.if-b-eq9.true)
+
+pub returns-then-b-eq10 : goal.returns-then-b-eq10
+returns-then-b-eq10 c = rw (ne_eqb _ _ c.if-b-eq32.false, ne_eqb _ _ c.if-b-eq9.false, eq-eqb _ _ c.if-b-eq10.true)
+
+pub returns : goal.returns
+returns c = rw (ne_eqb _ _ c.if-b-eq32.false, ne_eqb _ _ c.if-b-eq9.false, ne_eqb _ _ c.if-b-eq10.false)

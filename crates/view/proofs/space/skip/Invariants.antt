@@ -1,0 +1,15 @@
+-- `view::space::skip` meets its contract.
+-- Assumes nothing.
+use Rattle.view.proofs.Places.{skip_step, skip_stop, skip_out}
+use Rattle.view.specs.Values.{skip_of}
+use borrow.Author.Rules.{rules}
+use lib.ListN.{length}
+use Prim.Native.Nat.{◌-◌}
+use mathlib.Core.Path.{◌≡◌, refl, sym, ◌∙◌}
+use Rattle.view.proofs.space.skip.Given as goal
+
+abbrev pub invariant-loop-p : goal.invariant-loop-p
+invariant-loop-p l = skip_of l.text l.p ≡ skip_of l.text l.at
+
+abbrev pub decreases-loop-p : goal.decreases-loop-p
+decreases-loop-p l = length l.text - l.p

@@ -1,0 +1,9 @@
+-- `view::strings::put` meets its contract.
+-- Assumes nothing.
+use mathlib.Core.Path.{sym}
+use borrow.Author.Rules.{rules}
+use lib.Seq.{set_out}
+use Rattle.view.proofs.strings.put.Goals as goal
+
+pub returns-else-i-out : goal.returns-else-i-out
+returns-else-i-out c = sym (set_out _ _ _ c.if-i-out.false)

@@ -1,0 +1,28 @@
+-- `view::strings::spelled_length` meets its contract: as many bytes are read as are not left.
+-- Assumes nothing.
+use mathlib.Core.Path.{◌≡◌, ap}
+use Prim.Native.Nat.{◌+◌}
+use native.Mathlib.Omega.{arith}
+use borrow.Author.Rules.{rules}
+use lib.ListN.{length}
+use Rattle.view.specs.Strings.{string_at, left_of, Within}
+use Rattle.view.proofs.Undone.{read_end, read_byte, read_within, string_short}
+use Rattle.view.proofs.strings.spelled_length.Goals as goal
+
+pub loop-next-init : goal.loop-next-init
+loop-next-init c = (c.opening-c.ensures.1, omega (arith, ap length c.opening-c.ensures.0))
+
+pub next_byte-requires : goal.next_byte-requires
+next_byte-requires c = c.loop-next.invariant.0
+
+pub returns-in-End : goal.returns-in-End
+returns-in-End c = let z = ap length (read_end c.next_byte.ensures c.in-End.is) in omega (arith, c.loop-next.invariant.1)
+
+pub overflow_add-n : goal.overflow_add-n
+overflow_add-n c = let z = ap length (read_byte c.next_byte.ensures c.in-Byte.is) in let s = string_short c.args.text.now c.args.at in omega (arith, c.loop-next.invariant.1)
+
+pub loop-next-smaller : goal.loop-next-smaller
+loop-next-smaller c = let z = ap length (read_byte c.next_byte.ensures c.in-Byte.is) in omega arith
+
+pub loop-next-preserved : goal.loop-next-preserved
+loop-next-preserved c = let z = ap length (read_byte c.next_byte.ensures c.in-Byte.is) in (read_within c.next_byte.ensures c.in-Byte.is, omega (arith, c.loop-next.invariant.1))

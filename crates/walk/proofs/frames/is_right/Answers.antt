@@ -1,0 +1,12 @@
+-- `walk::frames::is_right` meets its contract.
+-- Assumes nothing.
+use mathlib.Core.Path.{sym, ◌∙◌}
+use Rattle.walk.proofs.FrameLaws.{right_none, right_size}
+use borrow.Author.Rules.{rules}
+use Rattle.walk.proofs.frames.is_right.Goals as goal
+
+pub returns-then-size-eq0 : goal.returns-then-size-eq0
+returns-then-size-eq0 c = right_none _ _ _ c.if-size-eq0.true
+
+pub returns : goal.returns
+returns c = c.is_size.ensures ∙ right_size _ _ _ c.if-size-eq0.false

@@ -1,0 +1,12 @@
+-- `walk::frames::key` meets its contract.
+-- Assumes nothing.
+use mathlib.Core.Path.{sym, ◌∙◌}
+use Rattle.walk.proofs.FrameLaws.{key_map, key_none}
+use borrow.Author.Rules.{rules}
+use Rattle.walk.proofs.frames.key.Goals as goal
+
+pub returns-then-is_map : goal.returns-then-is_map
+returns-then-is_map c = key_map _ _ _ (sym c.is_map.ensures ∙ c.if-is_map.true) c.counted.ensures
+
+pub returns : goal.returns
+returns c = key_none _ _ _ c.requires.2 (sym c.is_map.ensures ∙ c.if-is_map.false)

@@ -1,0 +1,29 @@
+-- `walk::rows::next_part` meets its contract: the parts among the rows that are left are the parts.
+-- Assumes nothing.
+use Prim.Native.Nat.{◌-◌}
+use mathlib.Core.Path.{◌≡◌, refl}
+use mathlib.Core.Logic.{⊎_elim}
+use Rattle.walk.proofs.RowLaws.{part_end, part_stop, part_here, part_alias, part_deeper}
+use Rattle.walk.specs.Parts.{parts_at}
+use Rattle.walk.specs.Steps.{type_at}
+use borrow.Author.Rules.{rules}
+use Rattle.walk.proofs.rows.next_part.Goals as goal
+
+pub loop-i-init : goal.loop-i-init
+loop-i-init c = refl
+
+pub returns-then-d-depth : goal.returns-then-d-depth
+returns-then-d-depth c = part_stop _ _ _ _ _ c.loop-i.invariant c.loop-i-test.true c.depth_at-d.ensures.0 c.if-d-depth.true
+
+pub returns-then-is_part : goal.returns-then-is_part
+returns-then-is_part c = part_here _ _ _ _ _ c.loop-i.invariant c.loop-i-test.true c.depth_at-d.ensures.0 c.if-d-depth-2.true (c.is_part.ensures _ c.kind_number.ensures) c.if-is_part.true
+
+pub loop-i-preserved : goal.loop-i-preserved
+loop-i-preserved c =
+    ⊎_elim
+    (λ w. part_alias _ _ _ _ _ c.loop-i.invariant c.loop-i-test.true c.depth_at-d.ensures.0 w.0.taken (w.2.ensures _ w.1.ensures) w.3.left)
+    (λ w. part_deeper _ _ _ _ _ c.loop-i.invariant c.loop-i-test.true c.depth_at-d.ensures.0 c.if-d-depth.false w.left)
+    c.if-d-depth-2.branch
+
+pub returns : goal.returns
+returns c = part_end _ _ _ _ _ c.loop-i.invariant c.loop-i-test.false

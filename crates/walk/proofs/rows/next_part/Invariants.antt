@@ -1,0 +1,16 @@
+-- `walk::rows::next_part` meets its contract: the parts among the rows that are left are the parts.
+-- Assumes nothing.
+use Prim.Native.Nat.{◌-◌}
+use mathlib.Core.Path.{◌≡◌, refl}
+use mathlib.Core.Logic.{⊎_elim}
+use Rattle.walk.proofs.RowLaws.{part_end, part_stop, part_here, part_alias, part_deeper}
+use Rattle.walk.specs.Parts.{parts_at}
+use Rattle.walk.specs.Steps.{type_at}
+use borrow.Author.Rules.{rules}
+use Rattle.walk.proofs.rows.next_part.Given as goal
+
+abbrev pub invariant-loop-i : goal.invariant-loop-i
+invariant-loop-i l = parts_at l.depth (type_at l.mem l.n l.i) ≡ parts_at l.depth (type_at l.mem l.n l.start)
+
+abbrev pub decreases-loop-i : goal.decreases-loop-i
+decreases-loop-i l = l.n - l.i

@@ -1,0 +1,10 @@
+-- `walk::tables::held` meets its contract.
+-- Assumes nothing.
+use mathlib.Core.Path.{sym}
+use lib.ListN.{get_or-eq_default}
+use borrow.Author.Rules.{rules}
+use borrow.Author.Rules.{rules}
+use Rattle.walk.proofs.tables.held.Goals as goal
+
+pub returns : goal.returns
+returns c = sym (get_or-eq_default c.args.table.now 0 c.if-row-table.false)
