@@ -1,7 +1,7 @@
 -- Turns of the loops: each invariant says that the answer is that for what is left.
 -- Assumes nothing.
 use mathlib.Core.Path.{◌≡◌, sym, ap, ◌∙◌}
-use mathlib.Core.Bool.{Bool, true, false, ◌&&◌, and_true, and-false, and_assoc}
+use mathlib.Core.Bool.{Bool, true, false, ◌&&◌, and-true, and-false, and_assoc}
 use mathlib.Core.List.{List, [], ◌∷◌, ◌++◌}
 use Prim.Native.Nat.{ℕ, suc, ◌+◌, ◌-◌, ◌<◌, ◌≤◌, max, min}
 use native.Mathlib.Numerals.{add-one}
@@ -17,7 +17,7 @@ use Rattle.ground.proofs.Laws.{store_cons, store_none, store_past}
 -- two strings of one byte more
 same_more : (a b : List ℕ) (x y : ℕ) → length a ≡ length b → same (a ++ (x ∷ [])) (b ++ (y ∷ [])) ≡ (same a b && eqb x y)
 unfolding same
-same_more [] [] x y e = and_true (eqb x y)
+same_more [] [] x y e = and-true (eqb x y)
 same_more [] (v ∷ b) x y e = absurd (omega arith)
 same_more (u ∷ a) [] x y e = absurd (omega arith)
 same_more (u ∷ a) (v ∷ b) x y e = ap (λ (z : Bool). eqb u v && z) (same_more a b x y (omega arith)) ∙ sym (and_assoc (eqb u v) (same a b) (eqb x y))
@@ -45,7 +45,7 @@ module _ (a b : List ℕ) (e : length a ≡ length b) where
       pub same_turn : get_or a i 0 ≡ get_or b i 0 → t ≡ same (take (length a + 1 - (back + 1)) a) (take (length a + 1 - (back + 1)) b)
       same_turn d =
           let z : length a + 1 - (back + 1) ≡ i = omega arith in
-          last ∙ rw (eq-eqb (get_or a i 0) (get_or b i 0) d, z) (and_true (same (take i a) (take i b)))
+          last ∙ rw (eq-eqb (get_or a i 0) (get_or b i 0) d, z) (and-true (same (take i a) (take i b)))
 
 -- the larger of two is 0 where both are
 both_zero : (a b : ℕ) → eqb (max a b) 0 ≡ (eqb a 0 && eqb b 0)
@@ -63,7 +63,7 @@ module _ (s : List ℕ) (i most : ℕ) (t : Bool) (inv : t ≡ (eqb most 0 && al
 
   pub zero_end : length s ≤ i → eqb most 0 ≡ t
   unfolding all_zero
-  zero_end l = sym (inv ∙ rw (drop_of_length-le s l) (and_true (eqb most 0)))
+  zero_end l = sym (inv ∙ rw (drop_of_length-le s l) (and-true (eqb most 0)))
 
 module _ (to x bs : List ℕ) (at i : ℕ) (inv : store to (at + i) (drop i bs) ≡ x) where
   pub copy_turn : i < length bs → store (set to (at + i) (get_or bs i 0)) (at + (i + 1)) (drop (i + 1) bs) ≡ x

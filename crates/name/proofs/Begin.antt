@@ -1,6 +1,6 @@
 -- What a string that keeps a rule can begin with. Assumes nothing.
 use mathlib.Core.Path.{◌≡◌, refl, sym, ◌∙◌}
-use mathlib.Core.Bool.{Bool, true, false, cond, and_true, and-false}
+use mathlib.Core.Bool.{Bool, true, false, cond, and-true, and-false}
 use mathlib.Core.List.{List, [], ◌∷◌, ◌++◌}
 use Prim.Native.Nat.{ℕ, ◌<◌, ◌≤◌}
 use native.Mathlib.Omega.{arith}
@@ -53,7 +53,7 @@ keeps_letter dots first = rw (letter_stands dots first 97 an_a)
 -- one byte
 pub keeps_one : (dots first : Bool) (b : ℕ) → keeps dots first (b ∷ ascii "a") ≡ may_stand dots first b
 unfolding keeps
-keeps_one dots first b = rw (letter_stands dots (eqb b dot) 97 an_a) (and_true (may_stand dots first b))
+keeps_one dots first b = rw (letter_stands dots (eqb b dot) 97 an_a) (and-true (may_stand dots first b))
 
 keeps_follows : (dots first : Bool) (s r : List ℕ) → keeps dots first (s ++ r) ≡ true → keeps dots first (s ++ ascii "a") ≡ true
 keeps_follows dots first [] r e = keeps_letter dots first

@@ -1,6 +1,6 @@
 -- The laws of names that callers cite. Assumes nothing.
 use mathlib.Core.Path.{◌≡◌, refl, sym, ap, ◌∙◌}
-use mathlib.Core.Bool.{Bool, true, false, not, cond, ◌&&◌, ◌||◌, and_true, and-false, and_assoc, or_false, or_true, or_assoc, and-eq-true_iff}
+use mathlib.Core.Bool.{Bool, true, false, not, cond, ◌&&◌, ◌||◌, and-true, and-false, and_assoc, or-false, or-true, or_assoc, and-eq-true_iff}
 use mathlib.Mathlib.Data.Bool.Basic.{or-eq-false-eq-eq-false-and-eq-false as or-eq-false}
 use mathlib.Core.List.{List, [], ◌∷◌, ◌++◌}
 use Prim.Native.Nat.{ℕ, ◌+◌, ◌-◌, ◌<◌, ◌≤◌}
@@ -95,7 +95,7 @@ dotted_dot a b = rw (parts_dot a b) (every_append is_simple (parts a) (parts b))
 -- without a dot it is one simple name
 pub dotted_plain : (s : List ℕ) → has_dot s ≡ false → is_dotted s ≡ is_simple s
 unfolding is_dotted every
-dotted_plain s e = rw (parts_plain s e, and_true)
+dotted_plain s e = rw (parts_plain s e, and-true)
 
 -- and one simple name counts as joined
 pub simple_dotted : (s : List ℕ) → is_simple s ≡ true → is_dotted s ≡ true
@@ -158,7 +158,7 @@ plain_lead (b ∷ bs) e = ((or-eq-false (eqb b dot) (has_dot bs)).0 e).0
 -- after a leading dot a name is a simple name
 pub name_lead : (s : List ℕ) → starts_with_dot s ≡ true → is_name s ≡ is_simple (drop 1 s)
 unfolding is_name
-name_lead s e = rw (e, lead_simple s e, lead_dotted s e) (or_false (is_simple (drop 1 s)))
+name_lead s e = rw (e, lead_simple s e, lead_dotted s e) (or-false (is_simple (drop 1 s)))
 
 -- else a name is simple names joined by dots
 pub name_else : (s : List ℕ) → starts_with_dot s ≡ false → is_name s ≡ is_dotted s
@@ -257,7 +257,7 @@ module _ (s : List ℕ) (d : is_dotted s ≡ true) where
     where
       go : (x : Bool) → has_dot s ≡ x → is_namespace (namespace_part s) ≡ true
       go false e = rw (namespace_plain s e)
-      go true e = rw (both_dotted e).0 (or_true (is_empty (namespace_part s)))
+      go true e = rw (both_dotted e).0 (or-true (is_empty (namespace_part s)))
 
 -- a namespace that is not empty is simple names joined by dots
 pub namespace_dotted : (s : List ℕ) → is_namespace s ≡ true → is_empty s ≡ false → is_dotted s ≡ true
@@ -323,7 +323,7 @@ full_dotted namespace s n e = go (starts_with_dot s) refl (has_dot s) refl (is_e
     go false p y q true r = rw (full_none namespace s r p) (sym (name_else s p) ∙ e)
     go false p true q false r = rw (full_written namespace s q p) (sym (name_else s p) ∙ e)
     go false p false q false r =
-        rw (full_within namespace s q r, dotted_dot namespace s, sym (name_else s p) ∙ e, and_true) (namespace_dotted namespace n r)
+        rw (full_within namespace s q r, dotted_dot namespace s, sym (name_else s p) ∙ e, and-true) (namespace_dotted namespace n r)
 
 -- the last part of a full name is that of the name as written
 pub full_last : (namespace s : List ℕ) → last_part (full_name namespace s) ≡ last_part s

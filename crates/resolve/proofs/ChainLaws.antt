@@ -1,7 +1,7 @@
 -- Chains of rows: what two rows that clash have alike, and what the chains answer.
 -- Assumes nothing.
 use mathlib.Core.Path.{◌≡◌, refl, sym, ap, ◌∙◌}
-use mathlib.Core.Bool.{Bool, true, false, not, cond, ◌&&◌, ◌||◌, and-false, or_false}
+use mathlib.Core.Bool.{Bool, true, false, not, cond, ◌&&◌, ◌||◌, and-false, or-false}
 use mathlib.Core.List.{List, [], ◌∷◌, ◌++◌}
 use Prim.Native.Nat.{ℕ, zero, suc, ◌+◌, ◌-◌, ◌<◌, ◌≤◌}
 use native.Mathlib.Omega.{arith}
@@ -146,7 +146,7 @@ module _ (m : List ℕ) (i : ℕ) (t : Row → Bool) where
       let e : i + 1 + suc n ≡ suc (i + 1 + n) = omega arith in
       let f : suc n ≡ n + 1 = omega arith in
       let r = row_at m (i + 1 + n) in
-      let g : some t (rows_from m (suc n) (i + 1)) ≡ (some t (rows_from m n (i + 1)) || t r) = rw (f, rows_snoc m (i + 1) n, some_append t (rows_from m n (i + 1)) (r ∷ []), or_false) in
+      let g : some t (rows_from m (suc n) (i + 1)) ≡ (some t (rows_from m n (i + 1)) || t r) = rw (f, rows_snoc m (i + 1) n, some_append t (rows_from m n (i + 1)) (r ∷ []), or-false) in
       ap (any_below behind) e ∙ any_next n ∙ ap (λ (z : Bool). z || t r) (any_behind n) ∙ sym g
 
 -- what a chain answers, for the rows behind row i and before row j

@@ -1,7 +1,7 @@
 -- The first rows of a set, then rows of another memory: what the chains of their definitions answer.
 -- Assumes nothing.
 use mathlib.Core.Path.{◌≡◌, refl, sym, ap, subst, ◌∙◌}
-use mathlib.Core.Bool.{Bool, true, false, cond, ◌||◌, or_false}
+use mathlib.Core.Bool.{Bool, true, false, cond, ◌||◌, or-false}
 use mathlib.Core.List.{List, [], ◌∷◌, ◌++◌, append-nil, append_assoc}
 use Prim.Native.Nat.{ℕ, zero, suc, ◌+◌, ◌-◌, ◌<◌, ◌≤◌}
 use native.Mathlib.Nat.{add-zero}
@@ -39,7 +39,7 @@ module _ (one : List ℕ) (earlier : ℕ) (other : List ℕ) (start : ℕ) where
   module _ (name : List ℕ) where
     defined_one : (rows : List Row) (r : Row) → is_defined (rows ++ (r ∷ [])) name ≡ (is_defined rows name || defines name r)
     unfolding is_defined some
-    defined_one rows r = defined_append rows (r ∷ []) name ∙ rw or_false
+    defined_one rows r = defined_append rows (r ∷ []) name ∙ rw or-false
 
     any_first : (n : ℕ) → n ≤ earlier → any_below (is_named_at one earlier other start name) n ≡ is_defined (rows_from one n 0) name
     unfolding any_below is_named_at is_defined some

@@ -1,7 +1,7 @@
 -- The turns of the walks over the rows under a row, over plain values.
 -- Assumes nothing.
 use mathlib.Core.Path.{◌≡◌, refl, sym, ap, ◌∙◌}
-use mathlib.Core.Bool.{Bool, true, false, cond, ◌||◌, and_true, and-false}
+use mathlib.Core.Bool.{Bool, true, false, cond, ◌||◌, and-true, and-false}
 use mathlib.Core.List.{List, [], ◌∷◌}
 use Prim.Native.Nat.{ℕ, zero, suc, ◌+◌, ◌-◌, ◌<◌, ◌≤◌}
 use native.Mathlib.Nat.{add-zero}
@@ -181,7 +181,7 @@ module _ (m : List ℕ) (i : ℕ) (d : List ℕ) (e : d ≡ default_at m i) wher
 
   pub fine_default : good_default (entry_at m i).kind d ≡ true → good_text (entry_at m i).kind (text_at m i) ≡ good_strings (row_at m i)
   unfolding good_strings
-  fine_default h = rw (← e, h, and_true)
+  fine_default h = rw (← e, h, and-true)
 
 -- and its size: 0 on any row
 pub zero_size : (r : Row) → r.size ≡ 0 → true ≡ good_size r

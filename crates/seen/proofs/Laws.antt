@@ -1,7 +1,7 @@
 -- Laws of the table: what was entered is marked, and stays so.
 -- Assumes nothing.
 use mathlib.Core.Path.{◌≡◌, refl, sym, ap, ◌∙◌}
-use mathlib.Core.Bool.{Bool, true, false, ◌||◌, or_false}
+use mathlib.Core.Bool.{Bool, true, false, ◌||◌, or-false}
 use mathlib.Core.List.{List, [], ◌∷◌, ◌++◌}
 use Prim.Native.Nat.{ℕ, zero, suc, ◌+◌, ◌*◌, ◌/◌, ◌%◌, ◌<◌, ◌≤◌}
 use native.Mathlib.Nat.{mul-le-mul, mul-lt-mul_of_pos_right, div-le_self}
@@ -169,7 +169,7 @@ module _ {table : List ℕ} {taken : List (List ℕ)} (h : Holds table taken) (x
       go : (y : List ℕ) (b : Bool) → is_one_of taken y ≡ b → (is_one_of taken y || is_one_of (x ∷ []) y) ≡ true → is_marked (entered table (mark_of x)) (mark_of y) ≡ true
       go y true e f = marked_stays table (mark_of x) (mark_of y) l (h.holds y e)
       go y false e f =
-          let g : same y x ≡ true = sym (or_false (same y x)) ∙ (rw e at f) in
+          let g : same y x ≡ true = sym (or-false (same y x)) ∙ (rw e at f) in
           rw (same_true y x g) (entered_marked table (mark_of x) l)
 
   pub surely_new : is_marked table (mark_of x) ≡ false → is_one_of taken x ≡ false

@@ -1,6 +1,6 @@
 -- The reserved words by their lengths. Assumes nothing.
 use mathlib.Core.Path.{◌≡◌, refl, sym, ap, ◌∙◌}
-use mathlib.Core.Bool.{Bool, true, false, cond, or_false}
+use mathlib.Core.Bool.{Bool, true, false, cond, or-false}
 use mathlib.Core.List.{List, [], ◌∷◌}
 use Prim.Native.Nat.{ℕ}
 use lib.Dec.{eqb}
@@ -29,7 +29,7 @@ of_length_lem n s h (w ∷ ws) = go (eqb (length w) n) refl (of_length_lem n s h
 module _ (s : List ℕ) where
   pub reserved_3 : length s ≡ 3 → same s (ascii "int") ≡ is_one_of reserved_words s
   unfolding reserved_words of_length is_one_of
-  reserved_3 h = sym (or_false _) ∙ of_length_lem 3 s h reserved_words
+  reserved_3 h = sym (or-false _) ∙ of_length_lem 3 s h reserved_words
 
   pub reserved_4 : length s ≡ 4 → is_one_of (ascii "null" ∷ ascii "long" ∷ ascii "enum" ∷ []) s ≡ is_one_of reserved_words s
   unfolding reserved_words of_length
@@ -45,7 +45,7 @@ module _ (s : List ℕ) where
 
   pub reserved_7 : length s ≡ 7 → same s (ascii "boolean") ≡ is_one_of reserved_words s
   unfolding reserved_words of_length is_one_of
-  reserved_7 h = sym (or_false _) ∙ of_length_lem 7 s h reserved_words
+  reserved_7 h = sym (or-false _) ∙ of_length_lem 7 s h reserved_words
 
   other_length : (n : ℕ) → (3 ≡ n → ⊥) → (4 ≡ n → ⊥) → (5 ≡ n → ⊥) → (6 ≡ n → ⊥) → (7 ≡ n → ⊥) → of_length n reserved_words ≡ []
   unfolding reserved_words of_length

@@ -1,6 +1,6 @@
 -- `name::reserved::is_one_of` meets its contract. Assumes nothing.
 use mathlib.Core.Path.{sym, ◌∙◌}
-use mathlib.Core.Bool.{or_false}
+use mathlib.Core.Bool.{or-false}
 use borrow.Author.Rules.{rules}
 use Rattle.name.specs.Name.{is_one_of}
 use Rattle.name.proofs.reserved.is_one_of.Goals as goal
@@ -19,6 +19,6 @@ returns c =
     simp (
       sym c.same.ensures ∙ c.if-same.false,
       sym c.same-2.ensures ∙ c.if-same-2.false,
-      or_false,
+      or-false,
     )
     c.same-3.ensures
