@@ -19,10 +19,7 @@ loop-i-smaller c = omega arith
 pub loop-i-preserved : goal.loop-i-preserved
 loop-i-preserved c =
     let t = push_turn _ _ _ c.args.start c.args.n c.loop-i.i _ _ c.loop-i.invariant.2 c.loop-i.invariant.3 c.loop-i-test.true _ _ _ c.read_row-row.ensures c.string_of-text.ensures.0 c.default_of-default.ensures.0 _ _ c.push_both-sum.ensures.0 c.push_both-sum.ensures.1 in
-    (omega arith, c.push_both-sum.auto.0 ∙ c.loop-i.invariant.1, t.0, t.1)
-
-pub shape_of-mem : goal.shape_of-mem
-shape_of-mem c = c.loop-i.invariant.1
+    (omega arith, c.push_both-sum.auto.mem ∙ c.loop-i.invariant.1, t.0, t.1)
 
 pub returns : goal.returns
 returns c = push_end _ _ _ c.args.start c.args.n c.loop-i.i _ _ c.loop-i.invariant.2 c.loop-i.invariant.3 c.loop-i-test.false
