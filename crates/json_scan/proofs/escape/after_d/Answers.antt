@@ -1,4 +1,4 @@
--- `json::after_d` meets its contract. Assumes nothing.
+-- `json_scan::after_d` meets its contract. Assumes nothing.
 use mathlib.Core.Path.{refl, sym, ap, ◌∙◌}
 use Prim.Native.Nat.{◌+◌}
 use native.Mathlib.Omega.{arith}
@@ -7,15 +7,6 @@ use Rattle.ground.proofs.Laws.{byte_at_lem}
 use Rattle.json_scan.specs.Json.{inside, is_high, str, plain, h2d, h3, g3, g5}
 use Rattle.json_scan.proofs.Readers.{lt_of_class, reads_is, reads_then, reads_bad}
 use Rattle.json_scan.proofs.Strings.{below_8, no_high, high_on, last_two, high_two}
-use borrow.Author.Rules.{rules}
-use Rattle.json_scan.proofs.escape.after_d.Reads as reads
-use Rattle.json_scan.proofs.escape.after_d.Lts as lts
-use Rattle.json_scan.proofs.step.bad.Reads as bad-reads
-use Rattle.ground.proofs.byte_at.Reads as byte-at-reads
-use Rattle.json_scan.proofs.byte.inside.Reads as inside-reads
-use Rattle.json_scan.proofs.byte.is_high.Reads as is-high-reads
-use Rattle.json_scan.proofs.escape.low_half.Reads as low-half-reads
-use Rattle.json_scan.proofs.escape.two_hex.Reads as two-hex-reads
 use Rattle.json_scan.proofs.escape.after_d.Goals as goal
 
 pub overflow_add-at : goal.overflow_add-at

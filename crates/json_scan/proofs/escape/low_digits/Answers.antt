@@ -1,4 +1,4 @@
--- `json::low_digits` meets its contract. Assumes nothing.
+-- `json_scan::low_digits` meets its contract. Assumes nothing.
 use mathlib.Core.Path.{refl, sym, ap, ◌∙◌}
 use Prim.Native.Nat.{◌+◌}
 use native.Mathlib.Omega.{arith}
@@ -7,14 +7,6 @@ use Rattle.ground.proofs.Laws.{byte_at_lem}
 use Rattle.json_scan.specs.Json.{is_d, is_low, str, plain, g7, g8, h3}
 use Rattle.json_scan.proofs.Readers.{lt_of_class, reads_is}
 use Rattle.json_scan.proofs.Strings.{no_d, d_on, no_low, low_on, last_two}
-use borrow.Author.Rules.{rules}
-use Rattle.json_scan.proofs.escape.low_digits.Reads as reads
-use Rattle.json_scan.proofs.escape.low_digits.Lts as lts
-use Rattle.json_scan.proofs.step.bad.Reads as bad-reads
-use Rattle.ground.proofs.byte_at.Reads as byte-at-reads
-use Rattle.json_scan.proofs.byte.is_d.Reads as is-d-reads
-use Rattle.json_scan.proofs.byte.is_low.Reads as is-low-reads
-use Rattle.json_scan.proofs.escape.two_hex.Reads as two-hex-reads
 use Rattle.json_scan.proofs.escape.low_digits.Goals as goal
 
 pub returns-then-not-is_d : goal.returns-then-not-is_d

@@ -1,17 +1,11 @@
--- `json::skip` meets its contract: each byte that was passed is white space, and leaves a mode as it was that white space leaves so.
+-- `json_scan::skip` meets its contract: each byte that was passed is white space, and leaves a mode as it was that white space leaves so.
 -- Assumes nothing.
-use borrow.Author.Rules.{rules}
 use borrow.Author.Tests.{not-true, not-false}
-use mathlib.Core.Path.{◌≡◌, refl, sym, ap, ◌∙◌}
-use Prim.Native.Nat.{◌≤◌, ◌-◌, max}
+use mathlib.Core.Path.{refl, sym, ap, ◌∙◌}
 use native.Mathlib.Omega.{arith}
-use lib.ListN.{length, get_or-eq_default}
-use Rattle.json_scan.specs.Json.{Mode, Stack, is_space}
-use Rattle.json_scan.specs.Meets.{run_at, Stays}
+use lib.ListN.{get_or-eq_default}
+use Rattle.json_scan.specs.Json.{is_space}
 use Rattle.json_scan.proofs.Laws.{hop}
-use Rattle.json_scan.proofs.step.skip.Reads as reads
-use Rattle.json_scan.proofs.step.skip.Lts as lts
-use Rattle.json_scan.proofs.byte.is_space.Reads as is-space-reads
 use Rattle.json_scan.proofs.step.skip.Goals as goal
 
 pub loop-at-init : goal.loop-at-init

@@ -1,17 +1,11 @@
--- `json::unescaped` meets its contract: each byte that was passed stands for itself, and leaves a mode as it was that letters leave so.
+-- `json_scan::unescaped` meets its contract: each byte that was passed stands for itself, and leaves a mode as it was that letters leave so.
 -- Assumes nothing.
-use borrow.Author.Rules.{rules}
 use borrow.Author.Tests.{not-true, not-false}
-use mathlib.Core.Path.{◌≡◌, refl, sym, ap, ◌∙◌}
-use Prim.Native.Nat.{◌≤◌, ◌-◌, max}
+use mathlib.Core.Path.{refl, sym, ap, ◌∙◌}
 use native.Mathlib.Omega.{arith}
-use lib.ListN.{length, get_or-eq_default}
-use Rattle.json_scan.specs.Json.{Mode, Stack, is_unescaped}
-use Rattle.json_scan.specs.Meets.{run_at, Stays}
+use lib.ListN.{get_or-eq_default}
+use Rattle.json_scan.specs.Json.{is_unescaped}
 use Rattle.json_scan.proofs.Laws.{hop}
-use Rattle.json_scan.proofs.string.unescaped.Reads as reads
-use Rattle.json_scan.proofs.string.unescaped.Lts as lts
-use Rattle.json_scan.proofs.byte.is_unescaped.Reads as is-unescaped-reads
 use Rattle.json_scan.proofs.string.unescaped.Goals as goal
 
 pub loop-at-init : goal.loop-at-init
