@@ -5,4 +5,4 @@ use mir.Facts.{to_z-of_z}
 use Rattle.rabin.proofs.fingerprint.Goals as goal
 
 pub returns : goal.returns
-returns c = cc (to_z-of_z (sfits_of c.result.type-inv))
+returns c = cc (to_z-of_z (sfits_of c.result.type_inv))

@@ -7,4 +7,4 @@ use mir.Facts.{to_z-of_z}
 use Rattle.rabin.proofs.Rabin.byte.Goals as goal
 
 pub returns : goal.returns
-returns c = cc (to_z-of_z {w = w64} {z = c.args.self.state} (sfits_of (omega arith)), to_z-of_z (sfits_of c.step.type-inv))
+returns c = cc (to_z-of_z {w = w64} {z = c.args.self.state} (sfits_of (omega arith)), to_z-of_z (sfits_of c.step.type_inv))

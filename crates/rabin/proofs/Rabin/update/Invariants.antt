@@ -12,7 +12,7 @@ use Rattle.rabin.proofs.Loop.{fold_next, fold_end}
 use Rattle.rabin.proofs.Rabin.update.Given as goal
 
 abbrev pub invariant-loop-i : goal.invariant-loop-i
-invariant-loop-i l = (l.i ≤ length l.bytes) × (rabin_from (signed_of l.s) (drop l.i l.bytes) ≡ rabin_from (signed_of l.initial.s) l.bytes)
+invariant-loop-i l = (l.i ≤ length l.bytes) × (rabin_from l.s (drop l.i l.bytes) ≡ rabin_from l.initial.s l.bytes)
 
 abbrev pub decreases-loop-i : goal.decreases-loop-i
 decreases-loop-i l = length l.bytes - l.i
