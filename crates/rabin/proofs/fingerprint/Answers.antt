@@ -1,6 +1,6 @@
 -- `rabin::fingerprint` meets its contract.
 -- Assumes nothing.
-use borrow.Author.Rules.{rules, sfits_of}
+use borrow.Author.Rules.{sfits_of}
 use mir.Facts.{to_z-of_z}
 use Rattle.rabin.proofs.fingerprint.Goals as goal
 

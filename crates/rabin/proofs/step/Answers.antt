@@ -7,9 +7,8 @@ use native.Mathlib.Omega.{arith}
 use lib.Bits.{bit_xor}
 use lib.IntN.{ℤ, pos}
 use lib.ListN.{get_or}
-use borrow.Author.Rules.{rules}
 use mir.Syntax.{w64}
-use Rattle.rabin.specs.Rabin.{bits_of, signed_of, entry_of, byte_step, byte_bits}
+use Rattle.rabin.specs.Rabin.{bits_of, signed_of, byte_step, byte_bits}
 use Rattle.rabin.proofs.Entries.{entry_bits}
 use Rattle.rabin.proofs.Signed.{shr_8, byte_casts, byte_cast}
 use Rattle.rabin.proofs.step.Goals as goal

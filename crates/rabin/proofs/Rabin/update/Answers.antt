@@ -1,14 +1,12 @@
 -- `rabin::Rabin::update` meets its contract: the fingerprint of what is left, from here, is the whole one.
 -- Assumes nothing.
-use mathlib.Core.Path.{◌≡◌, refl, ap, ◌∙◌}
-use Prim.Native.Nat.{◌≤◌, ◌-◌}
+use mathlib.Core.Path.{refl, ap, ◌∙◌}
 use native.Mathlib.Omega.{arith}
 use lib.IntN.{ℤ}
-use lib.ListN.{length, drop}
-use borrow.Author.Rules.{rules, sfits_of}
+use borrow.Author.Rules.{sfits_of}
 use mir.Syntax.{w64}
 use mir.Facts.{to_z-of_z}
-use Rattle.rabin.specs.Rabin.{signed_of, rabin_from}
+use Rattle.rabin.specs.Rabin.{rabin_from}
 use Rattle.rabin.proofs.Loop.{fold_next, fold_end}
 use Rattle.rabin.proofs.Rabin.update.Goals as goal
 

@@ -4,7 +4,6 @@ use borrow.Author.Tests.{not-true, not-false}
 use mathlib.Core.Path.{sym, ◌∙◌}
 use Rattle.ground.specs.Bytes.{part}
 use Rattle.row.proofs.TestLaws.{sizes_left, rows_left_lem, texts_left}
-use borrow.Author.Rules.{rules}
 use Rattle.row.proofs.tidy.spare_zero.Goals as goal
 
 pub returns-then-not-all_zero : goal.returns-then-not-all_zero

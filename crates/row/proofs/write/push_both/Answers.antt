@@ -3,7 +3,6 @@
 use mathlib.Core.Path.{sym, ◌∙◌}
 use borrow.Author.Tests.{not-true, not-false}
 use Rattle.row.proofs.WriteLaws.{both_counted, both_full, both_room, both_pushed}
-use borrow.Author.Rules.{rules}
 use Rattle.row.proofs.write.push_both.Goals as goal
 
 pub returns-then-not-has_room : goal.returns-then-not-has_room
