@@ -32,4 +32,4 @@ print_of-requires c =
 pub returns : goal.returns
 returns c =
     let w = sym c.well_formed-2.ensures ∙ not-false _ c.if-not-well_formed.false-raw in
-    ap (λ (f : ℤ). numbers_of_print (Fingerprint f)) (to_z-of_z (sfits_of c.print_of.type-inv)) ∙ print_found _ _ w (place_counted _ _ w _ c.declarations.ensures (omega (arith, c.if-declarations-place.false))) _ c.print_of.ensures.0
+    ap (λ (f : ℤ). numbers_of_print (Fingerprint f)) (to_z-of_z (sfits_of c.print_of.type_inv)) ∙ print_found _ _ w (place_counted _ _ w _ c.declarations.ensures (omega (arith, c.if-declarations-place.false))) _ c.print_of.ensures.0

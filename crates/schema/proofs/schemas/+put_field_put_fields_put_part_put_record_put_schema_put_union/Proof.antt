@@ -204,7 +204,7 @@ put_field_same_length_4 t c = search rules
 
 put_field_returns_4 : (t : ℕ) → put-field-lts.Need-returns-4 (put_field_calls t) (put_field_at t) put-field.Post
 put_field_returns_4 t c =
-    did_eq (element_field _ _ _ _ c.before.before.before.before.before.before.before.before.before.before.before.before.before.before.before.before.before.before.before.before.before.is-object.ensures (not-false _ c.before.before.before.before.before.before.before.before.before.before.before.before.before.before.before.before.before.before.before.before.if1.false)) (field_typed _ _ _ _ c.before.before.before.before.before.before.before.before.before.before.before.before.before.before.before.before.before.before.before.members-at.ensures c.before.before.before.before.before.before.before.before.before.before.before.before.before.before.before.before.put-field-head.ensures c.before.before.before.before.before.before.before.before.before.before.before.before.next.given.1 c.before.before.before.before.before.before.before.before.before.type-inv.given.1 c.before.before.before.before.put-schema.ensures)
+    did_eq (element_field _ _ _ _ c.before.before.before.before.before.before.before.before.before.before.before.before.before.before.before.before.before.before.before.before.before.is-object.ensures (not-false _ c.before.before.before.before.before.before.before.before.before.before.before.before.before.before.before.before.before.before.before.before.if1.false)) (field_typed _ _ _ _ c.before.before.before.before.before.before.before.before.before.before.before.before.before.before.before.before.before.before.before.members-at.ensures c.before.before.before.before.before.before.before.before.before.before.before.before.before.before.before.before.put-field-head.ensures c.before.before.before.before.before.before.before.before.before.before.before.before.next.given.1 c.before.before.before.before.before.before.before.before.before.type_inv.given.1 c.before.before.before.before.put-schema.ensures)
 
 abbrev put_fields_Inv_loop : put-fields-lts.invariant-loop
 put_fields_Inv_loop text ends namespace array depth left draft₀ word₀ table₀ sum₀ spot₀ draft word table sum spot =
