@@ -1,10 +1,8 @@
 -- `walk::frames::block` meets its contract: the entries are pushed, with or without the place of their size.
 -- Assumes nothing.
 use mathlib.Core.Path.{sym, ap, ◌∙◌}
-use borrow.Author.Tests.{not-true, not-false}
 use Rattle.walk.specs.declared.states.Turn.TheVariants.{On}
 use Rattle.walk.proofs.TurnLaws.{moved_room, block_plain, block_sized, block_cut, block_wrong}
-use borrow.Author.Rules.{rules}
 use Rattle.walk.proofs.frames.block.Goals as goal
 
 pub returns-then-not-is_negative : goal.returns-then-not-is_negative

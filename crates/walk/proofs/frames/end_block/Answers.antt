@@ -1,9 +1,7 @@
 -- `walk::frames::end_block` meets its contract: the size is right and a header comes, or it is wrong.
 -- Assumes nothing.
 use mathlib.Core.Path.{refl, sym, ◌∙◌}
-use borrow.Author.Tests.{not-true, not-false}
 use Rattle.walk.proofs.TurnLaws.{popped_none, popped_bounded, popped_listed, ended_on, ended_wrong}
-use borrow.Author.Rules.{rules}
 use Rattle.walk.proofs.frames.end_block.Goals as goal
 
 pub returns-then-not-is_right : goal.returns-then-not-is_right
