@@ -18,7 +18,7 @@ pub append-a-requires : goal.append-a-requires
 append-a-requires c = let h = copied_asks _ c.requires.0 _ refl c.copy.ensures c.requires.1 in (h.0, h.1, c.requires.2)
 
 pub settle-requires : goal.settle-requires
-settle-requires c = is_long _ c.requires.0 ∙ sym (c.append-a.auto.0 ∙ is_long _ (copied_asks _ c.requires.0 _ refl c.copy.ensures c.requires.1).0)
+settle-requires c = is_long _ c.requires.0 ∙ sym (c.append-a.auto.out ∙ is_long _ (copied_asks _ c.requires.0 _ refl c.copy.ensures c.requires.1).0)
 
 pub returns : goal.returns
 returns c = copied_settled _ c.requires.0 _ refl c.copy.ensures _ c.append-a.ensures c.settle.ensures
