@@ -95,6 +95,21 @@ fn read_more(mut stdin: Stdin, buf: &mut [u8], n: usize) -> io::Result<usize>
     Ok(n + got)
 }
 
+// Reads until the buffer is full or the input ends, and answers how many bytes there are.
+pub fn read_full(stdin: Stdin, buf: &mut [u8]) -> io::Result<usize>
+    ensures { IfOk result (λ n. n ≤ length buf.new) }
+{
+    let mut to = 0;
+    while to < buf.len() {
+        let more = read_more(stdin, buf, to)?;
+        if more <= to {
+            return Ok(to);
+        }
+        to = more;
+    }
+    Ok(to)
+}
+
 // Reads until the line ends of which the buffer's first n bytes are there.
 fn read_line(stdin: Stdin, buf: &mut [u8], n: usize) -> io::Result<Line>
     requires { n ≤ length buf.old }
