@@ -10,20 +10,28 @@ use ground::copy;
 use row::Layout;
 use schema::Walked;
 use script::input::{Line, next_line};
-use script::output::{flush, put, put_decimal};
+use script::output::{Output, flush, put, put_decimal};
+use std::io;
+use std::io::Stdin;
 
-fn put_fault(out: &mut [u8], at: usize, f: Fault) -> usize {
+fn put_fault(stdout: &mut Output, out: &mut [u8], at: usize, f: Fault) -> usize {
     let why = f.why;
-    let a = put_decimal(out, at, why.number() as u64);
-    let b = put(out, a, b":");
-    put_decimal(out, b, f.at as u64)
+    let a = put_decimal(stdout, out, at, why.number() as u64);
+    let b = put(stdout, out, a, b":");
+    put_decimal(stdout, out, b, f.at as u64)
 }
 
 // The answer to a text.
-fn put_answer(out: &mut [u8], at: usize, text: &[u8], draft: &mut [u8]) -> usize {
+fn put_answer(
+    stdout: &mut Output,
+    out: &mut [u8],
+    at: usize,
+    text: &[u8],
+    draft: &mut [u8],
+) -> usize {
     match schema::declare(text, draft) {
-        Walked::Bad(f) => put_fault(out, at, f),
-        Walked::Read(_) => put(out, at, b"ok"),
+        Walked::Bad(f) => put_fault(stdout, out, at, f),
+        Walked::Read(_) => put(stdout, out, at, b"ok"),
     }
 }
 
@@ -44,6 +52,7 @@ fn append(text: &mut [u8], at: usize, s: &[u8]) -> usize
 
 // The answer to the text that has a string between its front and its back, and what ends the answer.
 fn put_framed(
+    stdout: &mut Output,
     out: &mut [u8],
     at: usize,
     draft: &mut [u8],
@@ -57,61 +66,93 @@ fn put_framed(
     let b = append(&mut text, a, string);
     let n = append(&mut text, b, back);
     let all = &text[..];
-    let next = put_answer(out, at, &all[0..n], draft);
-    put(out, next, end)
+    let next = put_answer(stdout, out, at, &all[0..n], draft);
+    put(stdout, out, next, end)
 }
 
 // A definition's name, its alias.
-fn put_defined(out: &mut [u8], draft: &mut [u8], s: &[u8]) -> usize {
+fn put_defined(stdout: &mut Output, out: &mut [u8], draft: &mut [u8], s: &[u8]) -> usize {
     let name = b"{\"type\":\"fixed\",\"name\":\"";
     let alias = b"{\"type\":\"fixed\",\"name\":\"A\",\"aliases\":[\"";
-    let a = put_framed(out, 0, draft, name, s, b"\",\"size\":1}", b" ");
-    put_framed(out, a, draft, alias, s, b"\"],\"size\":1}", b" ")
+    let a = put_framed(stdout, out, 0, draft, name, s, b"\",\"size\":1}", b" ");
+    put_framed(stdout, out, a, draft, alias, s, b"\"],\"size\":1}", b" ")
 }
 
 // A reference, a namespace.
-fn put_names(out: &mut [u8], at: usize, draft: &mut [u8], s: &[u8]) -> usize {
+fn put_names(stdout: &mut Output, out: &mut [u8], at: usize, draft: &mut [u8], s: &[u8]) -> usize {
     let reference = b"{\"type\":\"array\",\"items\":\"";
     let namespace = b"{\"type\":\"fixed\",\"name\":\"A\",\"namespace\":\"";
-    let a = put_framed(out, at, draft, reference, s, b"\"}", b" ");
-    put_framed(out, a, draft, namespace, s, b"\",\"size\":1}", b" ")
+    let a = put_framed(stdout, out, at, draft, reference, s, b"\"}", b" ");
+    put_framed(stdout, out, a, draft, namespace, s, b"\",\"size\":1}", b" ")
 }
 
 // A field's name, its alias, a symbol.
-fn put_simple_names(out: &mut [u8], at: usize, draft: &mut [u8], s: &[u8]) -> usize {
+fn put_simple_names(
+    stdout: &mut Output,
+    out: &mut [u8],
+    at: usize,
+    draft: &mut [u8],
+    s: &[u8],
+) -> usize {
     let field = b"{\"type\":\"record\",\"name\":\"R\",\"fields\":[{\"name\":\"";
     let alias = b"{\"type\":\"record\",\"name\":\"R\",\"fields\":[{\"name\":\"f\",\"aliases\":[\"";
     let symbol = b"{\"type\":\"enum\",\"name\":\"E\",\"symbols\":[\"";
-    let a = put_framed(out, at, draft, field, s, b"\",\"type\":\"int\"}]}", b" ");
-    let b = put_framed(out, a, draft, alias, s, b"\"],\"type\":\"int\"}]}", b" ");
-    put_framed(out, b, draft, symbol, s, b"\"]}", b"\n")
+    let a = put_framed(
+        stdout,
+        out,
+        at,
+        draft,
+        field,
+        s,
+        b"\",\"type\":\"int\"}]}",
+        b" ",
+    );
+    let b = put_framed(
+        stdout,
+        out,
+        a,
+        draft,
+        alias,
+        s,
+        b"\"],\"type\":\"int\"}]}",
+        b" ",
+    );
+    put_framed(stdout, out, b, draft, symbol, s, b"\"]}", b"\n")
 }
 
-fn answer_line(s: &[u8], draft: &mut [u8], out: &mut [u8]) {
-    let a = put_defined(out, draft, s);
-    let b = put_names(out, a, draft, s);
-    let c = put_simple_names(out, b, draft, s);
-    flush(out, c);
+fn answer_line(stdout: &mut Output, s: &[u8], draft: &mut [u8], out: &mut [u8]) -> io::Result<()> {
+    let a = put_defined(stdout, out, draft, s);
+    let b = put_names(stdout, out, a, draft, s);
+    let c = put_simple_names(stdout, out, b, draft, s);
+    flush(stdout, out, c)
 }
 
-fn run(input: &mut [u8], draft: &mut [u8], out: &mut [u8]) {
+fn run(
+    stdin: Stdin,
+    stdout: &mut Output,
+    input: &mut [u8],
+    draft: &mut [u8],
+    out: &mut [u8],
+) -> io::Result<()> {
     let mut line = Line::none();
     let mut turns = u64::MAX;
     while 0 < turns {
-        line = next_line(input, line);
+        line = next_line(stdin, input, line)?;
         if !line.there {
-            return;
+            return Ok(());
         }
         let from = line.from;
         let to = line.to;
-        answer_line(&input[from..to], draft, out);
+        answer_line(stdout, &input[from..to], draft, out)?;
         turns -= 1;
     }
+    Ok(())
 }
 
-fn main() {
+fn main(rt: HostRuntime) -> io::Result<()> {
+    let mut stdout = Output::new(rt.stdout());
     let mut input = [0u8; 65536];
     let mut draft = [0u8; Layout::LENGTH];
-    let mut out = io::large_buffer();
-    run(&mut input, &mut draft, &mut out);
+    let mut out = [0u8; 65536];
+    run(rt.stdin(), &mut stdout, &mut input, &mut draft, &mut out)
 }

@@ -5,8 +5,9 @@
 
 ghost use Rattle.std.specs.Prelude.{◌≤◌};
 
-use libc::STDOUT_FILENO;
 use name::Full;
+use std::io;
+use std::io::Stdout;
 
 fn symbol(k: usize) -> u8 {
     match k {
@@ -23,53 +24,52 @@ fn wide(b: u8) -> u64 {
     b as u64
 }
 
-fn print_bytes(s: &[u8]) {
+fn print_bytes(stdout: Stdout, s: &[u8]) -> io::Result<()> {
     if s.len() == 0 {
-        io::write_all(STDOUT_FILENO, b"-");
+        print!(stdout; "-")?;
     }
     let mut i = 0;
     while i < s.len() {
-        io::print_hex(STDOUT_FILENO, wide(s[i]), 2);
+        print!(stdout; "{:02x}", wide(s[i]))?;
         i += 1;
     }
+    Ok(())
 }
 
-fn print_flag(flag: bool) {
+fn print_flag(stdout: Stdout, flag: bool) -> io::Result<()> {
     if flag {
-        io::write_all(STDOUT_FILENO, b" 1");
+        print!(stdout; " 1")
     } else {
-        io::write_all(STDOUT_FILENO, b" 0");
+        print!(stdout; " 0")
     }
 }
 
-fn print_full(namespace: &[u8], s: &[u8]) {
-    io::write_all(STDOUT_FILENO, b" ");
+fn print_full(stdout: Stdout, namespace: &[u8], s: &[u8]) -> io::Result<()> {
+    print!(stdout; " ")?;
     let mut out = [0u8; Full::LONGEST];
     match name::full_name(namespace, s, &mut out) {
-        Full::TooLong => {
-            io::write_all(STDOUT_FILENO, b"!");
-        }
-        Full::Fits(n) => print_bytes(&out[0..n]),
+        Full::TooLong => print!(stdout; "!"),
+        Full::Fits(n) => print_bytes(stdout, &out[0..n]),
     }
 }
 
-fn print_line(s: &[u8]) {
-    print_bytes(s);
-    print_flag(name::is_simple(s));
-    print_flag(name::is_name(s));
-    print_flag(name::is_namespace(s));
+fn print_line(stdout: Stdout, s: &[u8]) -> io::Result<()> {
+    print_bytes(stdout, s)?;
+    print_flag(stdout, name::is_simple(s))?;
+    print_flag(stdout, name::is_name(s))?;
+    print_flag(stdout, name::is_namespace(s))?;
     if name::is_name(s) {
-        print_full(b"", s);
-        print_full(b"n", s);
-        print_full(b"n.m", s);
-        io::write_all(STDOUT_FILENO, b"\n");
+        print_full(stdout, b"", s)?;
+        print_full(stdout, b"n", s)?;
+        print_full(stdout, b"n.m", s)?;
+        println!(stdout)
     } else {
-        io::write_all(STDOUT_FILENO, b" - - -\n");
+        println!(stdout; " - - -")
     }
 }
 
 // The first `count` strings of n bytes.
-fn print_strings(n: usize, count: usize)
+fn print_strings(stdout: Stdout, n: usize, count: usize) -> io::Result<()>
     requires { n ≤ 4 }
 {
     let start = 4 - n;
@@ -81,15 +81,17 @@ fn print_strings(n: usize, count: usize)
             symbol(k / 6 % 6),
             symbol(k % 6),
         ];
-        print_line(&s[start..4]);
+        print_line(stdout, &s[start..4])?;
         k += 1;
     }
+    Ok(())
 }
 
-fn main() {
-    print_strings(0, 1);
-    print_strings(1, 6);
-    print_strings(2, 36);
-    print_strings(3, 216);
-    print_strings(4, 1296);
+fn main(rt: HostRuntime) -> io::Result<()> {
+    let stdout = rt.stdout();
+    print_strings(stdout, 0, 1)?;
+    print_strings(stdout, 1, 6)?;
+    print_strings(stdout, 2, 36)?;
+    print_strings(stdout, 3, 216)?;
+    print_strings(stdout, 4, 1296)
 }

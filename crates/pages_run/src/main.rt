@@ -1,6 +1,8 @@
 // The examples of docs/NAMES.md.
 #![tactic(auto)]
 
-fn main() {
-    replays::run();
+use std::io;
+
+fn main(rt: HostRuntime) -> io::Result<()> {
+    replays::run(rt.stdin(), rt.stdout())
 }

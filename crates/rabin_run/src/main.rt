@@ -3,51 +3,56 @@
 #![tactic(auto)]
 
 use rabin::Rabin;
+use std::io;
+use std::io::Stdout;
 
-fn main() {
-    line(b"");
-    line(&[0x95]);
-    line(&[0x15]);
-    line(b"hello world");
-    single_bytes();
+fn main(rt: HostRuntime) -> io::Result<()> {
+    let stdout = rt.stdout();
+    line(stdout, b"")?;
+    line(stdout, &[0x95])?;
+    line(stdout, &[0x15])?;
+    line(stdout, b"hello world")?;
+    single_bytes(stdout)?;
     let counted = counting();
-    line(&counted);
+    line(stdout, &counted)
 }
 
-fn line(bytes: &[u8]) {
+fn line(stdout: Stdout, bytes: &[u8]) -> io::Result<()> {
     let print = Rabin::new().update(bytes);
-    signed(print.result());
-    io::write_all(1, b" ");
+    signed(stdout, print.result())?;
+    print!(stdout; " ")?;
     let octets = print.bytes();
-    hex(&octets);
-    io::write_all(1, b"\n");
+    hex(stdout, &octets)?;
+    println!(stdout)
 }
 
-fn signed(s: i64) {
+fn signed(stdout: Stdout, s: i64) -> io::Result<()> {
     if s < 0 {
-        io::write_all(1, b"-");
+        print!(stdout; "-")?;
     }
-    io::print_decimal(1, ground::magnitude(s));
+    print!(stdout; "{}", ground::magnitude(s))
 }
 
-fn hex(bytes: &[u8; 8]) {
+fn hex(stdout: Stdout, bytes: &[u8; 8]) -> io::Result<()> {
     let mut i: usize = 0;
     while i < 8 {
-        io::print_hex(1, wide(bytes[i]), 2);
+        print!(stdout; "{:02x}", wide(bytes[i]))?;
         i += 1;
     }
+    Ok(())
 }
 
 fn wide(b: u8) -> u64 {
     b as u64
 }
 
-fn single_bytes() {
+fn single_bytes(stdout: Stdout) -> io::Result<()> {
     let mut b: u64 = 0;
     while b < 256 {
-        line(&[(b % 256) as u8]);
+        line(stdout, &[(b % 256) as u8])?;
         b += 1;
     }
+    Ok(())
 }
 
 fn counting() -> [u8; 1000] {

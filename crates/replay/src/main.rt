@@ -1,5 +1,7 @@
 #![tactic(auto)]
 
-fn main() {
-    replays::run();
+use std::io;
+
+fn main(rt: HostRuntime) -> io::Result<()> {
+    replays::run(rt.stdin(), rt.stdout())
 }

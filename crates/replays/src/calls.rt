@@ -12,24 +12,25 @@ use json_scan::Scan;
 use rabin::Rabin;
 use row::read::{declarations, rows_before, rows_of};
 use script::answers::{put_refusal, put_rows, put_spaced};
-use script::output::{put, put_signed};
+use script::output::{Output, put, put_signed};
 use set::Naming;
 use summary::{Offsets, Place};
 
 // The full name, or where it is empty what the call says that tells why.
-fn name(mem: &[u8], place: usize, row: usize, out: &mut [u8]) -> usize {
+fn name(stdout: &mut Output, mem: &[u8], place: usize, row: usize, out: &mut [u8]) -> usize {
     let name = set::full_name(mem, place, row);
     if name.len() == 0 {
         match set::naming_of(mem, place, row) {
-            Naming::Refused(r) => return put_refusal(out, 0, r),
+            Naming::Refused(r) => return put_refusal(stdout, out, 0, r),
             Naming::Named(_) => {}
         }
     }
-    let at = put(out, 0, b"ok");
-    put_last(out, at, name)
+    let at = put(stdout, out, 0, b"ok");
+    put_last(stdout, out, at, name)
 }
 
 fn canonical_into(
+    stdout: &mut Output,
     mem: &[u8],
     place: usize,
     offset: usize,
@@ -38,16 +39,17 @@ fn canonical_into(
 ) -> usize {
     fill(buffer, 170);
     match canonical::canonical(mem, place, buffer, offset) {
-        Written::Refused(r) => put_refusal_with(out, r, buffer),
+        Written::Refused(r) => put_refusal_with(stdout, out, r, buffer),
         Written::Length(n) => {
-            let a = put(out, 0, b"ok");
-            let b = put_spaced(out, a, n as u64);
-            put_last(out, b, buffer)
+            let a = put(stdout, out, 0, b"ok");
+            let b = put_spaced(stdout, out, a, n as u64);
+            put_last(stdout, out, b, buffer)
         }
     }
 }
 
 fn canonical_text(
+    stdout: &mut Output,
     mem: &[u8],
     place: usize,
     offset: usize,
@@ -56,96 +58,117 @@ fn canonical_text(
     out: &mut [u8],
 ) -> usize {
     if buffer.len() < room {
-        return put_what(out);
+        return put_what(stdout, out);
     }
-    canonical_into(mem, place, offset, &mut buffer[0..room], out)
+    canonical_into(stdout, mem, place, offset, &mut buffer[0..room], out)
 }
 
-fn fingerprint(mem: &[u8], place: usize, out: &mut [u8]) -> usize {
+fn fingerprint(stdout: &mut Output, mem: &[u8], place: usize, out: &mut [u8]) -> usize {
     match canonical::fingerprint(mem, place) {
-        Print::Refused(r) => put_refusal(out, 0, r),
+        Print::Refused(r) => put_refusal(stdout, out, 0, r),
         Print::Fingerprint(n) => {
             let state = Rabin { state: n };
             let bytes = state.bytes();
-            let a = put(out, 0, b"ok ");
-            let b = put_signed(out, a, n);
-            put_last(out, b, &bytes)
+            let a = put(stdout, out, 0, b"ok ");
+            let b = put_signed(stdout, out, a, n);
+            put_last(stdout, out, b, &bytes)
         }
     }
 }
 
-fn put_refused(out: &mut [u8], why: Why, place: usize) -> usize {
-    put_refusal(out, 0, Refusal { why, place, at: 0 })
+fn put_refused(stdout: &mut Output, out: &mut [u8], why: Why, place: usize) -> usize {
+    put_refusal(stdout, out, 0, Refusal { why, place, at: 0 })
 }
 
-fn rows(mem: &[u8], place: usize, out: &mut [u8]) -> usize {
+fn rows(stdout: &mut Output, mem: &[u8], place: usize, out: &mut [u8]) -> usize {
     if !well_formed(mem) {
-        return put_refused(out, Why::NotWellFormed, place);
+        return put_refused(stdout, out, Why::NotWellFormed, place);
     }
     if declarations(mem) <= place {
-        return put_refused(out, Why::NoSuchPlace, place);
+        return put_refused(stdout, out, Why::NoSuchPlace, place);
     }
     let start = rows_before(mem, place);
     let n = rows_of(mem, place);
-    let end = put_rows(out, 0, mem, start, n);
-    put(out, end, b"end\n")
+    let end = put_rows(stdout, out, 0, mem, start, n);
+    put(stdout, out, end, b"end\n")
 }
 
-fn scan(text: &[u8], out: &mut [u8]) -> usize {
+fn scan(stdout: &mut Output, text: &[u8], out: &mut [u8]) -> usize {
     match json_scan::scan(text) {
-        Scan::Whole => put_ok(out),
-        Scan::Bad(f) => put_refusal(out, 0, f.placed(0)),
+        Scan::Whole => put_ok(stdout, out),
+        Scan::Bad(f) => put_refusal(stdout, out, 0, f.placed(0)),
     }
 }
 
-fn summary_into(mem: &[u8], bytes: &[u8], list: &mut [usize], out: &mut [u8]) -> usize {
+fn summary_into(
+    stdout: &mut Output,
+    mem: &[u8],
+    bytes: &[u8],
+    list: &mut [usize],
+    out: &mut [u8],
+) -> usize {
     fill_list(list, 170);
     match summary::summary(mem, bytes, list) {
-        Offsets::Refused(r) => put_refusal_list(out, r, list),
+        Offsets::Refused(r) => put_refusal_list(stdout, out, r, list),
         Offsets::Given(place, n) => {
-            let a = put(out, 0, b"ok");
-            let b = put_spaced(out, a, place as u64);
-            let c = put_spaced(out, b, n as u64);
-            put_list(out, c, list)
+            let a = put(stdout, out, 0, b"ok");
+            let b = put_spaced(stdout, out, a, place as u64);
+            let c = put_spaced(stdout, out, b, n as u64);
+            put_list(stdout, out, c, list)
         }
     }
 }
 
-fn summary_of(mem: &[u8], room: usize, bytes: &[u8], list: &mut [usize], out: &mut [u8]) -> usize {
+fn summary_of(
+    stdout: &mut Output,
+    mem: &[u8],
+    room: usize,
+    bytes: &[u8],
+    list: &mut [usize],
+    out: &mut [u8],
+) -> usize {
     if list.len() < room {
-        return put_what(out);
+        return put_what(stdout, out);
     }
-    summary_into(mem, bytes, &mut list[0..room], out)
+    summary_into(stdout, mem, bytes, &mut list[0..room], out)
 }
 
 // The place of a fingerprint, which has eight bytes, lowest first.
-fn find(mem: &[u8], bytes: &[u8], out: &mut [u8]) -> usize {
+fn find(stdout: &mut Output, mem: &[u8], bytes: &[u8], out: &mut [u8]) -> usize {
     if bytes.len() != 8 {
-        return put_what(out);
+        return put_what(stdout, out);
     }
     match summary::find(mem, signed_of(bytes)) {
-        Place::Refused(r) => put_refusal(out, 0, r),
+        Place::Refused(r) => put_refusal(stdout, out, 0, r),
         Place::At(place) => {
-            let a = put(out, 0, b"ok");
-            let b = put_spaced(out, a, place as u64);
-            put(out, b, b"\n")
+            let a = put(stdout, out, 0, b"ok");
+            let b = put_spaced(stdout, out, a, place as u64);
+            put(stdout, out, b, b"\n")
         }
     }
 }
 
-fn datum_into(mem: &[u8], place: usize, bytes: &[u8], list: &mut [usize], out: &mut [u8]) -> usize {
+fn datum_into(
+    stdout: &mut Output,
+    mem: &[u8],
+    place: usize,
+    bytes: &[u8],
+    list: &mut [usize],
+    out: &mut [u8],
+) -> usize {
     fill_list(list, 170);
     match summary::datum(mem, place, bytes, list) {
-        Offsets::Refused(r) => put_refusal_list(out, r, list),
+        Offsets::Refused(r) => put_refusal_list(stdout, out, r, list),
         Offsets::Given(_, n) => {
-            let a = put(out, 0, b"ok");
-            let b = put_spaced(out, a, n as u64);
-            put_list(out, b, list)
+            let a = put(stdout, out, 0, b"ok");
+            let b = put_spaced(stdout, out, a, n as u64);
+            put_list(stdout, out, b, list)
         }
     }
 }
 
 fn datum_of(
+    stdout: &mut Output,
     mem: &[u8],
     place: usize,
     room: usize,
@@ -154,19 +177,20 @@ fn datum_of(
     out: &mut [u8],
 ) -> usize {
     if list.len() < room {
-        return put_what(out);
+        return put_what(stdout, out);
     }
-    datum_into(mem, place, bytes, &mut list[0..room], out)
+    datum_into(stdout, mem, place, bytes, &mut list[0..room], out)
 }
 
-fn digest(mem: &[u8], out: &mut [u8]) -> usize {
+fn digest(stdout: &mut Output, mem: &[u8], out: &mut [u8]) -> usize {
     let bytes = Rabin::new().update(mem).bytes();
-    let at = put(out, 0, b"digest");
-    put_last(out, at, &bytes)
+    let at = put(stdout, out, 0, b"digest");
+    put_last(stdout, out, at, &bytes)
 }
 
 // The answer to a call; memory is what is lent to it.
 pub(crate) fn answer(
+    stdout: &mut Output,
     call: Call,
     text: &[u8],
     mem: &mut [u8],
@@ -175,18 +199,26 @@ pub(crate) fn answer(
     out: &mut [u8],
 ) -> usize {
     match call {
-        Call::Open => put_answer(out, set::open(mem)),
-        Call::Put(place, n) => put_answer(out, set::put(mem, place, first(text, n))),
-        Call::Name(place, row) => name(mem, place, row, out),
+        Call::Open => put_answer(stdout, out, set::open(mem)),
+        Call::Put(place, n) => put_answer(stdout, out, set::put(mem, place, first(text, n))),
+        Call::Name(place, row) => name(stdout, mem, place, row, out),
         Call::Canonical(place, offset, room) => canonical_text(
-            mem, place, offset, room, buffer, out,
+            stdout, mem, place, offset, room, buffer, out,
         ),
-        Call::Fingerprint(place) => fingerprint(mem, place, out),
-        Call::Rows(place) => rows(mem, place, out),
-        Call::Scan(n) => scan(first(text, n), out),
-        Call::Summary(room, n) => summary_of(mem, room, first(text, n), list, out),
-        Call::Find(n) => find(mem, first(text, n), out),
-        Call::Datum(place, room, n) => datum_of(mem, place, room, first(text, n), list, out),
-        Call::Digest => digest(mem, out),
+        Call::Fingerprint(place) => fingerprint(stdout, mem, place, out),
+        Call::Rows(place) => rows(stdout, mem, place, out),
+        Call::Scan(n) => scan(stdout, first(text, n), out),
+        Call::Summary(room, n) => summary_of(stdout, mem, room, first(text, n), list, out),
+        Call::Find(n) => find(stdout, mem, first(text, n), out),
+        Call::Datum(place, room, n) => datum_of(
+            stdout,
+            mem,
+            place,
+            room,
+            first(text, n),
+            list,
+            out,
+        ),
+        Call::Digest => digest(stdout, mem, out),
     }
 }

@@ -1,67 +1,77 @@
 // The lines of answers. Each is put at the start of the output buffer; how many bytes there are then comes back.
 use answer::{Answer, Counts, Refusal};
 use script::answers::{put_refusal, put_spaced};
-use script::output::{put, put_hex};
+use script::output::{Output, put, put_hex};
 
-pub(crate) fn put_ok(out: &mut [u8]) -> usize {
-    put(out, 0, b"ok\n")
+pub(crate) fn put_ok(stdout: &mut Output, out: &mut [u8]) -> usize {
+    put(stdout, out, 0, b"ok\n")
 }
 
-pub(crate) fn put_what(out: &mut [u8]) -> usize {
-    put(out, 0, b"what?\n")
+pub(crate) fn put_what(stdout: &mut Output, out: &mut [u8]) -> usize {
+    put(stdout, out, 0, b"what?\n")
 }
 
 // A space, bytes, and the line's end.
-pub(crate) fn put_last(out: &mut [u8], at: usize, bytes: &[u8]) -> usize {
-    let a = put(out, at, b" ");
-    let b = put_hex(out, a, bytes);
-    put(out, b, b"\n")
+pub(crate) fn put_last(stdout: &mut Output, out: &mut [u8], at: usize, bytes: &[u8]) -> usize {
+    let a = put(stdout, out, at, b" ");
+    let b = put_hex(stdout, out, a, bytes);
+    put(stdout, out, b, b"\n")
 }
 
-fn put_counts(out: &mut [u8], counts: Counts) -> usize {
-    let a = put(out, 0, b"ok");
-    let b = put_spaced(out, a, counts.declarations as u64);
-    let c = put_spaced(out, b, counts.rows as u64);
-    let d = put_spaced(out, c, counts.string_bytes as u64);
-    put(out, d, b"\n")
+fn put_counts(stdout: &mut Output, out: &mut [u8], counts: Counts) -> usize {
+    let a = put(stdout, out, 0, b"ok");
+    let b = put_spaced(stdout, out, a, counts.declarations as u64);
+    let c = put_spaced(stdout, out, b, counts.rows as u64);
+    let d = put_spaced(stdout, out, c, counts.string_bytes as u64);
+    put(stdout, out, d, b"\n")
 }
 
-pub(crate) fn put_answer(out: &mut [u8], answer: Answer) -> usize {
+pub(crate) fn put_answer(stdout: &mut Output, out: &mut [u8], answer: Answer) -> usize {
     match answer {
-        Answer::Done(c) => put_counts(out, c),
-        Answer::Refused(r) => put_refusal(out, 0, r),
+        Answer::Done(c) => put_counts(stdout, out, c),
+        Answer::Refused(r) => put_refusal(stdout, out, 0, r),
     }
 }
 
 // A refusal, whose line goes on.
-fn put_refused(out: &mut [u8], r: Refusal) -> usize {
+fn put_refused(stdout: &mut Output, out: &mut [u8], r: Refusal) -> usize {
     let why = r.why;
-    let a = put(out, 0, b"refused");
-    let b = put_spaced(out, a, why.number() as u64);
-    let c = put_spaced(out, b, r.place as u64);
-    put_spaced(out, c, r.at as u64)
+    let a = put(stdout, out, 0, b"refused");
+    let b = put_spaced(stdout, out, a, why.number() as u64);
+    let c = put_spaced(stdout, out, b, r.place as u64);
+    put_spaced(stdout, out, c, r.at as u64)
 }
 
 // A refusal, and the caller's buffer afterwards.
-pub(crate) fn put_refusal_with(out: &mut [u8], r: Refusal, bytes: &[u8]) -> usize {
-    let at = put_refused(out, r);
-    put_last(out, at, bytes)
+pub(crate) fn put_refusal_with(
+    stdout: &mut Output,
+    out: &mut [u8],
+    r: Refusal,
+    bytes: &[u8],
+) -> usize {
+    let at = put_refused(stdout, out, r);
+    put_last(stdout, out, at, bytes)
 }
 
 // Numbers, a space before each, and the line's end.
-pub(crate) fn put_list(out: &mut [u8], at: usize, list: &[usize]) -> usize {
+pub(crate) fn put_list(stdout: &mut Output, out: &mut [u8], at: usize, list: &[usize]) -> usize {
     let mut end = at;
     let mut i = 0;
     while i < list.len() {
         let n = list[i];
-        end = put_spaced(out, end, n as u64);
+        end = put_spaced(stdout, out, end, n as u64);
         i += 1;
     }
-    put(out, end, b"\n")
+    put(stdout, out, end, b"\n")
 }
 
 // A refusal, and the caller's list afterwards.
-pub(crate) fn put_refusal_list(out: &mut [u8], r: Refusal, list: &[usize]) -> usize {
-    let at = put_refused(out, r);
-    put_list(out, at, list)
+pub(crate) fn put_refusal_list(
+    stdout: &mut Output,
+    out: &mut [u8],
+    r: Refusal,
+    list: &[usize],
+) -> usize {
+    let at = put_refused(stdout, out, r);
+    put_list(stdout, out, at, list)
 }

@@ -8,17 +8,20 @@ use crate::report::{put_ok, put_what};
 use commands::{Command, command_of};
 use row::Layout;
 use script::input::{Line, next_line};
-use script::output::flush;
+use script::output::{Output, flush};
+use std::io;
+use std::io::{Stdin, Stdout};
 
-fn put_done(done: bool, out: &mut [u8]) -> usize {
+fn put_done(stdout: &mut Output, done: bool, out: &mut [u8]) -> usize {
     if done {
-        return put_ok(out);
+        return put_ok(stdout, out);
     }
-    put_what(out)
+    put_what(stdout, out)
 }
 
 // What a command does, and its answer. The calls are lent the first bytes of the memory.
 fn obey(
+    stdout: &mut Output,
     command: Command,
     text: &[u8],
     memory: &mut [u8],
@@ -30,17 +33,17 @@ fn obey(
     requires { lent ≤ length memory.old }
 {
     match command {
-        Command::Lend(n) => put_done(n <= memory.len(), out),
+        Command::Lend(n) => put_done(stdout, n <= memory.len(), out),
         Command::Fill(byte) => {
             fill(memory, byte);
-            put_ok(out)
+            put_ok(stdout, out)
         }
         Command::Poke(at, n) => {
             let done = poke(memory, at, first(text, n));
-            put_done(done, out)
+            put_done(stdout, done, out)
         }
-        Command::Ask(call) => answer(call, text, &mut memory[0..lent], buffer, list, out),
-        Command::Unknown => put_what(out),
+        Command::Ask(call) => answer(stdout, call, text, &mut memory[0..lent], buffer, list, out),
+        Command::Unknown => put_what(stdout, out),
     }
 }
 
@@ -61,48 +64,54 @@ fn lent_after(command: Command, lent: usize, most: usize) -> usize
 }
 
 fn replay(
+    stdin: Stdin,
+    stdout: &mut Output,
     input: &mut [u8],
     text: &mut [u8],
     memory: &mut [u8],
     buffer: &mut [u8],
     list: &mut [usize],
     out: &mut [u8],
-)
+) -> io::Result<()>
     requires { layout_length ≤ length memory.old }
 {
     let mut line = Line::none();
     let mut lent = Layout::LENGTH;
     let mut turns = u64::MAX;
     while 0 < turns {
-        line = next_line(input, line);
+        line = next_line(stdin, input, line)?;
         if !line.there {
-            return;
+            return Ok(());
         }
         let from = line.from;
         let to = line.to;
         let cut = line.cut;
         let command = command_of(&input[from..to], cut, text);
         lent = lent_after(command, lent, memory.len());
-        let end = obey(command, text, memory, lent, buffer, list, out);
-        flush(out, end);
+        let end = obey(stdout, command, text, memory, lent, buffer, list, out);
+        flush(stdout, out, end)?;
         turns -= 1;
     }
+    Ok(())
 }
 
 // Answers the script on standard input.
-pub fn run() {
+pub fn run(stdin: Stdin, stdout: Stdout) -> io::Result<()> {
+    let mut output = Output::new(stdout);
     let mut input = [0u8; 131072];
-    let mut text = io::large_buffer();
+    let mut text = [0u8; 65536];
     let mut memory = [0u8; MEMORY];
     let mut buffer = [0u8; 131072];
     let mut list = [0usize; NUMBERS];
-    let mut out = io::large_buffer();
+    let mut out = [0u8; 65536];
     replay(
+        stdin,
+        &mut output,
         &mut input,
         &mut text,
         &mut memory,
         &mut buffer,
         &mut list,
         &mut out,
-    );
+    )
 }

@@ -1,15 +1,17 @@
 // Verdicts on memory, as it is and with one byte changed.
 use row::Layout;
+use std::io;
+use std::io::Stdout;
 
 // 1 where the first n bytes are a well-formed set, 0 where they are not.
-pub(crate) fn judge(mem: &[u8], n: usize) {
+pub(crate) fn judge(stdout: Stdout, mem: &[u8], n: usize) -> io::Result<()> {
     if mem.len() < n {
-        return;
+        return Ok(());
     }
     if formed::well_formed(&mem[0..n]) {
-        io::write_all(1, b"1");
+        print!(stdout; "1")
     } else {
-        io::write_all(1, b"0");
+        print!(stdout; "0")
     }
 }
 
@@ -22,34 +24,35 @@ fn down(b: u8) -> u8 {
 }
 
 // The verdict with another byte at a place; then it is as it was.
-fn with_byte(mem: &mut [u8], at: usize, b: u8) {
+fn with_byte(stdout: Stdout, mem: &mut [u8], at: usize, b: u8) -> io::Result<()> {
     if mem.len() <= at {
-        return;
+        return Ok(());
     }
     let old = mem[at];
     mem[at] = b;
-    judge(mem, Layout::LENGTH);
+    let judged = judge(stdout, mem, Layout::LENGTH);
     mem[at] = old;
+    judged
 }
 
-fn byte(mem: &mut [u8], at: usize) {
+fn byte(stdout: Stdout, mem: &mut [u8], at: usize) -> io::Result<()> {
     let old = ground::byte_at(mem, at);
-    with_byte(mem, at, up(old));
-    with_byte(mem, at, down(old));
-    with_byte(mem, at, old ^ 128);
+    with_byte(stdout, mem, at, up(old))?;
+    with_byte(stdout, mem, at, down(old))?;
+    with_byte(stdout, mem, at, old ^ 128)
 }
 
 // Each of n bytes, by three values.
-pub(crate) fn bytes(mem: &mut [u8], at: usize, n: usize) {
+pub(crate) fn bytes(stdout: Stdout, mem: &mut [u8], at: usize, n: usize) -> io::Result<()> {
     let mut i = at;
     let mut left = n;
     while 0 < left {
         if mem.len() <= i {
-            return;
+            return Ok(());
         }
-        byte(mem, i);
+        byte(stdout, mem, i)?;
         i += 1;
         left -= 1;
     }
-    io::write_all(1, b"\n");
+    println!(stdout)
 }

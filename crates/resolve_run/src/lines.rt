@@ -3,6 +3,8 @@ ghost use Rattle.std.specs.Prelude.{◌≤◌, ◌<◌, length};
 
 use crate::damage;
 use ground::byte_at;
+use std::io;
+use std::io::Stdout;
 
 // What a hex digit stands for, 0 for any other byte.
 fn digit(b: u8) -> usize
@@ -66,27 +68,26 @@ fn clear(mem: &mut [u8]) {
     }
 }
 
-fn command(mem: &mut [u8], line: &[u8]) {
+fn command(stdout: Stdout, mem: &mut [u8], line: &[u8]) -> io::Result<()> {
     let c = byte_at(line, 0);
     if c == b'c' {
         clear(mem);
-        return;
+        return Ok(());
     }
     if c == b's' {
         store(mem, line);
-        return;
+        return Ok(());
     }
     if c == b'j' {
-        damage::judge(mem, four(line, 1));
-        return;
+        return damage::judge(stdout, mem, four(line, 1));
     }
     if c == b'd' {
-        damage::bytes(mem, four(line, 1), four(line, 5));
-        return;
+        return damage::bytes(stdout, mem, four(line, 1), four(line, 5));
     }
     if c == b'n' {
-        io::write_all(1, b"\n");
+        return println!(stdout);
     }
+    Ok(())
 }
 
 // Where the line that starts at a place ends.
@@ -104,14 +105,15 @@ fn line_end(text: &[u8], at: usize) -> usize
     i
 }
 
-pub(crate) fn run(text: &[u8], mem: &mut [u8]) {
+pub(crate) fn run(stdout: Stdout, text: &[u8], mem: &mut [u8]) -> io::Result<()> {
     let mut at = 0;
     while at < text.len() {
         let end = line_end(text, at);
-        command(mem, &text[at..end]);
+        command(stdout, mem, &text[at..end])?;
         if text.len() <= end {
-            return;
+            return Ok(());
         }
         at = end + 1;
     }
+    Ok(())
 }

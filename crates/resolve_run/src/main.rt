@@ -5,9 +5,12 @@
 mod damage;
 mod lines;
 
-fn main() {
+use script::input::read_full;
+use std::io;
+
+fn main(rt: HostRuntime) -> io::Result<()> {
     let mut text = [0u8; 262144];
-    let n = io::read_full(0, &mut text);
+    let n = read_full(rt.stdin(), &mut text)?;
     let mut mem = [0u8; 51300];
-    lines::run(&text[..n], &mut mem);
+    lines::run(rt.stdout(), &text[..n], &mut mem)
 }

@@ -1,18 +1,21 @@
 // Memory in lines of hex: a line for each row, and lines of zeros left out.
 use row::Layout;
+use std::io;
+use std::io::Stdout;
 
 fn digit(n: u8) -> u8 {
     let d = n % 16;
     if d < 10 { 48 + d } else { 87 + d }
 }
 
-pub(crate) fn hex(s: &[u8]) {
+pub(crate) fn hex(stdout: Stdout, s: &[u8]) -> io::Result<()> {
     let mut i = 0;
     while i < s.len() {
         let pair = [digit(s[i] / 16), digit(s[i])];
-        io::write_all(1, &pair);
+        stdout.write_all(&pair)?;
         i += 1;
     }
+    Ok(())
 }
 
 // The first n bytes of s.
@@ -21,30 +24,31 @@ fn front(s: &[u8], n: usize) -> &[u8] {
 }
 
 // Where the line starts, and its bytes; nothing where all are zero.
-fn line(mem: &[u8], at: usize, n: usize) {
+fn line(stdout: Stdout, mem: &[u8], at: usize, n: usize) -> io::Result<()> {
     if mem.len() <= at {
-        return;
+        return Ok(());
     }
     if 65535 < at {
-        return;
+        return Ok(());
     }
     let bytes = front(&mem[at..], n);
     if ground::all_zero(bytes) {
-        return;
+        return Ok(());
     }
     let place = [(at / 256) as u8, (at % 256) as u8];
-    hex(&place);
-    io::write_all(1, b" ");
-    hex(bytes);
-    io::write_all(1, b"\n");
+    hex(stdout, &place)?;
+    print!(stdout; " ")?;
+    hex(stdout, bytes)?;
+    println!(stdout)
 }
 
 // The first line has 32 bytes, so that each row, of 34 bytes, has a line.
-pub(crate) fn dump(mem: &[u8]) {
-    line(mem, 0, 32);
+pub(crate) fn dump(stdout: Stdout, mem: &[u8]) -> io::Result<()> {
+    line(stdout, mem, 0, 32)?;
     let mut at = 32;
     while at < Layout::LENGTH {
-        line(mem, at, 34);
+        line(stdout, mem, at, 34)?;
         at += 34;
     }
+    Ok(())
 }

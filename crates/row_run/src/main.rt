@@ -8,8 +8,10 @@ mod rows;
 
 use answer::Counts;
 use row::Layout;
+use std::io;
 
-fn main() {
+fn main(rt: HostRuntime) -> io::Result<()> {
+    let stdout = rt.stdout();
     let mut mem = [170u8; Layout::LENGTH];
     row::write::clear(&mut mem);
     let none = Counts::none();
@@ -17,6 +19,6 @@ fn main() {
     rows::close(&mut mem, 0, none, first);
     let second = rows::enum_declaration(&mut mem, first);
     rows::close(&mut mem, 1, first, second);
-    dump::dump(&mem);
-    pokes::pokes(&mut mem);
+    dump::dump(stdout, &mem)?;
+    pokes::pokes(stdout, &mut mem)
 }

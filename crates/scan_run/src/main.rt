@@ -2,12 +2,12 @@
 // A line is a text in hexadecimal digits, in lower case, or `-` for the text of no bytes.
 #![tactic(auto)]
 
-ghost use Rattle.std.specs.Prelude.{◌<◌, ◌≤◌, length};
+ghost use Rattle.std.specs.Prelude.{◌<◌, ◌≤◌, length, IfOk};
 
 use answer::Why;
 use json_scan::Scan;
-
-const OUT: i32 = 1;
+use std::io;
+use std::io::{Read, Stdin, Stdout};
 
 // A line so far: how many bytes of its text are there, and the digit that waits for its second, 16 if none does.
 #[derive(Clone, Copy)]
@@ -33,84 +33,78 @@ fn digit(b: u8) -> u8
     }
 }
 
-fn refused(why: Why, at: usize) {
-    io::write_all(OUT, b"refused ");
-    io::print_decimal(OUT, why.number() as u64);
-    io::write_all(OUT, b" ");
-    io::print_decimal(OUT, at as u64);
-    io::write_all(OUT, b"\n");
+fn refused(stdout: Stdout, why: Why, at: usize) -> io::Result<()> {
+    println!(stdout; "refused {} {at}", why.number())
 }
 
-fn report(found: Scan) {
+fn report(stdout: Stdout, found: Scan) -> io::Result<()> {
     match found {
-        Scan::Whole => {
-            io::write_all(OUT, b"ok\n");
-        }
+        Scan::Whole => println!(stdout; "ok"),
         Scan::Bad(f) => {
             let why = f.why;
-            refused(why, f.at);
+            refused(stdout, why, f.at)
         }
     }
 }
 
 // One byte of a line more. At its end the text is scanned.
-fn take_byte(text: &mut [u8], line: Line, b: u8) -> Line
+fn take_byte(stdout: Stdout, text: &mut [u8], line: Line, b: u8) -> io::Result<Line>
     requires { line.n ≤ length text.old }
-    ensures { result.n ≤ length text.new }
+    ensures { IfOk result (λ next. next.n ≤ length text.new) }
 {
     let n = line.n;
     let high = line.high;
     if b == b'\n' {
-        report(json_scan::scan(&text[0..n]));
-        return Line { n: 0, high: 16 };
+        report(stdout, json_scan::scan(&text[0..n]))?;
+        return Ok(Line { n: 0, high: 16 });
     }
     let low = digit(b);
     if high > 15 {
-        return Line { n: n, high: low };
+        return Ok(Line { n: n, high: low });
     }
     if n >= text.len() {
-        return Line { n: n, high: 16 };
+        return Ok(Line { n: n, high: 16 });
     }
     text[n] = high * 16 + low;
-    Line { n: n + 1, high: 16 }
+    Ok(Line { n: n + 1, high: 16 })
 }
 
-fn take_bytes(bytes: &[u8], text: &mut [u8], start: Line) -> Line
+fn take_bytes(stdout: Stdout, bytes: &[u8], text: &mut [u8], start: Line) -> io::Result<Line>
     requires { start.n ≤ length text.old }
-    ensures { result.n ≤ length text.new }
+    ensures { IfOk result (λ next. next.n ≤ length text.new) }
 {
     let mut at: usize = 0;
     let mut line = start;
     while at < bytes.len() {
-        line = take_byte(text, line, bytes[at]);
+        line = take_byte(stdout, text, line, bytes[at])?;
         at += 1;
     }
-    line
+    Ok(line)
 }
 
 // Reads once, and answers how many bytes came: none at the end.
-fn read_some(bytes: &mut [u8]) -> usize
-    ensures { result ≤ length bytes.new }
+fn read_some(mut stdin: Stdin, bytes: &mut [u8]) -> io::Result<usize>
+    ensures { IfOk result (λ n. n ≤ length bytes.new) }
 {
-    let got = libc::read(0, bytes);
-    io::count(got, bytes)
+    stdin.read(bytes)
 }
 
-fn scan_all(bytes: &mut [u8], text: &mut [u8]) {
+fn scan_all(stdin: Stdin, stdout: Stdout, bytes: &mut [u8], text: &mut [u8]) -> io::Result<()> {
     let mut line = Line { n: 0, high: 16 };
     let mut turns = u64::MAX;
     while turns > 0 {
-        let n = read_some(bytes);
+        let n = read_some(stdin, bytes)?;
         if n == 0 {
-            return;
+            return Ok(());
         }
-        line = take_bytes(&bytes[0..n], text, line);
+        line = take_bytes(stdout, &bytes[0..n], text, line)?;
         turns -= 1;
     }
+    Ok(())
 }
 
-fn main() {
-    let mut bytes = io::large_buffer();
-    let mut text = io::large_buffer();
-    scan_all(&mut bytes, &mut text);
+fn main(rt: HostRuntime) -> io::Result<()> {
+    let mut bytes = [0u8; 65536];
+    let mut text = [0u8; 65536];
+    scan_all(rt.stdin(), rt.stdout(), &mut bytes, &mut text)
 }

@@ -9,10 +9,12 @@ use schema::Walked;
 use script::answers::{put_fault, put_rows, put_spaced};
 use script::hex::{Unhexed, unhex};
 use script::input::{Line, next_line};
-use script::output::{flush, put};
+use script::output::{Output, flush, put};
+use std::io;
+use std::io::Stdin;
 
 // The rows of a draft, where all are there.
-fn put_draft(out: &mut [u8], draft: &[u8], counts: Counts) -> usize {
+fn put_draft(stdout: &mut Output, out: &mut [u8], draft: &[u8], counts: Counts) -> usize {
     let rows = counts.rows;
     if Counts::ROWS < rows {
         return 0;
@@ -20,61 +22,84 @@ fn put_draft(out: &mut [u8], draft: &[u8], counts: Counts) -> usize {
     if Counts::STRING_BYTES < counts.string_bytes {
         return 0;
     }
-    put_rows(out, 0, draft, 0, rows)
+    put_rows(stdout, out, 0, draft, 0, rows)
 }
 
-fn put_counts(out: &mut [u8], at: usize, counts: Counts) -> usize {
-    let a = put(out, at, b"end");
-    let b = put_spaced(out, a, counts.rows as u64);
-    let c = put_spaced(out, b, counts.string_bytes as u64);
-    put(out, c, b"\n")
+fn put_counts(stdout: &mut Output, out: &mut [u8], at: usize, counts: Counts) -> usize {
+    let a = put(stdout, out, at, b"end");
+    let b = put_spaced(stdout, out, a, counts.rows as u64);
+    let c = put_spaced(stdout, out, b, counts.string_bytes as u64);
+    put(stdout, out, c, b"\n")
 }
 
 // The answer to a text.
-fn answer(text: &[u8], draft: &mut [u8], out: &mut [u8]) -> usize {
+fn answer(stdout: &mut Output, text: &[u8], draft: &mut [u8], out: &mut [u8]) -> usize {
     match schema::declare(text, draft) {
-        Walked::Bad(f) => put_fault(out, 0, f),
+        Walked::Bad(f) => put_fault(stdout, out, 0, f),
         Walked::Read(counts) => {
-            let at = put_draft(out, draft, counts);
-            put_counts(out, at, counts)
+            let at = put_draft(stdout, out, draft, counts);
+            put_counts(stdout, out, at, counts)
         }
     }
 }
 
-fn answer_line(word: &[u8], text: &mut [u8], draft: &mut [u8], out: &mut [u8]) {
+fn answer_line(
+    stdout: &mut Output,
+    word: &[u8],
+    text: &mut [u8],
+    draft: &mut [u8],
+    out: &mut [u8],
+) -> io::Result<()> {
     match unhex(word, text) {
         Unhexed::NotHex => {
-            let at = put(out, 0, b"what?\n");
-            flush(out, at);
+            let at = put(stdout, out, 0, b"what?\n");
+            flush(stdout, out, at)
         }
         Unhexed::Bytes(n) => {
             if n <= text.len() {
-                let at = answer(&text[0..n], draft, out);
-                flush(out, at);
+                let at = answer(stdout, &text[0..n], draft, out);
+                return flush(stdout, out, at);
             }
+            Ok(())
         }
     }
 }
 
-fn run(input: &mut [u8], text: &mut [u8], draft: &mut [u8], out: &mut [u8]) {
+fn run(
+    stdin: Stdin,
+    stdout: &mut Output,
+    input: &mut [u8],
+    text: &mut [u8],
+    draft: &mut [u8],
+    out: &mut [u8],
+) -> io::Result<()> {
     let mut line = Line::none();
     let mut turns = u64::MAX;
     while 0 < turns {
-        line = next_line(input, line);
+        line = next_line(stdin, input, line)?;
         if !line.there {
-            return;
+            return Ok(());
         }
         let from = line.from;
         let to = line.to;
-        answer_line(&input[from..to], text, draft, out);
+        answer_line(stdout, &input[from..to], text, draft, out)?;
         turns -= 1;
     }
+    Ok(())
 }
 
-fn main() {
+fn main(rt: HostRuntime) -> io::Result<()> {
+    let mut stdout = Output::new(rt.stdout());
     let mut input = [0u8; 262144];
     let mut text = [0u8; 131072];
     let mut draft = [0u8; Layout::LENGTH];
-    let mut out = io::large_buffer();
-    run(&mut input, &mut text, &mut draft, &mut out);
+    let mut out = [0u8; 65536];
+    run(
+        rt.stdin(),
+        &mut stdout,
+        &mut input,
+        &mut text,
+        &mut draft,
+        &mut out,
+    )
 }

@@ -4,49 +4,49 @@ ghost use Rattle.row.specs.Layout.{row_limit, layout_length};
 ghost use Rattle.script.specs.Put.{Put};
 ghost use Rattle.script.specs.Lines.{kind_word, spaced, fault_line, refusal_line, own_size, default_position, row_numbers, spaced_hex, row_line, row_lines, has_rows, rows_text};
 
-use crate::output::{put, put_decimal, put_hex};
+use crate::output::{Output, put, put_decimal, put_hex};
 use crate::words::word;
 use answer::{Counts, Fault, Refusal};
 use row::read::{default_of, read_row, string_of};
 use row::{Entry, Kind, Layout};
 
 // A space, and a number.
-pub fn put_spaced(out: &mut [u8], at: usize, n: u64) -> usize
+pub fn put_spaced(stdout: &mut Output, out: &mut [u8], at: usize, n: u64) -> usize
     ensures { Put out.old at (spaced n) out.new result }
 {
-    let next = put(out, at, b" ");
-    put_decimal(out, next, n)
+    let next = put(stdout, out, at, b" ");
+    put_decimal(stdout, out, next, n)
 }
 
-pub fn put_fault(out: &mut [u8], at: usize, f: Fault) -> usize
+pub fn put_fault(stdout: &mut Output, out: &mut [u8], at: usize, f: Fault) -> usize
     ensures { Put out.old at (fault_line f) out.new result }
 {
     let why = f.why;
-    let a = put(out, at, b"refused");
-    let b = put_spaced(out, a, why.number() as u64);
-    let c = put_spaced(out, b, f.at as u64);
-    put(out, c, b"\n")
+    let a = put(stdout, out, at, b"refused");
+    let b = put_spaced(stdout, out, a, why.number() as u64);
+    let c = put_spaced(stdout, out, b, f.at as u64);
+    put(stdout, out, c, b"\n")
 }
 
-pub fn put_refusal(out: &mut [u8], at: usize, r: Refusal) -> usize
+pub fn put_refusal(stdout: &mut Output, out: &mut [u8], at: usize, r: Refusal) -> usize
     ensures { Put out.old at (refusal_line r) out.new result }
 {
     let why = r.why;
-    let a = put(out, at, b"refused");
-    let b = put_spaced(out, a, why.number() as u64);
-    let c = put_spaced(out, b, r.place as u64);
-    let d = put_spaced(out, c, r.at as u64);
-    put(out, d, b"\n")
+    let a = put(stdout, out, at, b"refused");
+    let b = put_spaced(stdout, out, a, why.number() as u64);
+    let c = put_spaced(stdout, out, b, r.place as u64);
+    let d = put_spaced(stdout, out, c, r.at as u64);
+    put(stdout, out, d, b"\n")
 }
 
 // The word of each kind: word n is that of the kind whose number is n.
-fn put_kind(out: &mut [u8], at: usize, kind: Kind) -> usize
+fn put_kind(stdout: &mut Output, out: &mut [u8], at: usize, kind: Kind) -> usize
     ensures { Put out.old at (kind_word kind) out.new result }
 {
     let words =
         b" null boolean int long float double bytes string        reference        array map union      record enum fixed      field symbol       alias field-alias";
     let n = kind.number() as usize;
-    put(out, at, word(words, n))
+    put(stdout, out, at, word(words, n))
 }
 
 // The size of a fixed; a row with a default has none.
@@ -69,41 +69,55 @@ fn default_position(row: Entry, default: &[u8]) -> u64
     row.size
 }
 
-fn put_numbers(out: &mut [u8], at: usize, row: Entry, size: u64) -> usize
+fn put_numbers(stdout: &mut Output, out: &mut [u8], at: usize, row: Entry, size: u64) -> usize
     ensures { Put out.old at (row_numbers row size) out.new result }
 {
-    let a = put_spaced(out, at, row.depth as u64);
-    let b = put_spaced(out, a, row.position as u64);
-    let c = put_spaced(out, b, size);
-    let d = put_spaced(out, c, row.note as u64);
-    let e = put_spaced(out, d, row.precision);
-    put_spaced(out, e, row.scale)
+    let a = put_spaced(stdout, out, at, row.depth as u64);
+    let b = put_spaced(stdout, out, a, row.position as u64);
+    let c = put_spaced(stdout, out, b, size);
+    let d = put_spaced(stdout, out, c, row.note as u64);
+    let e = put_spaced(stdout, out, d, row.precision);
+    put_spaced(stdout, out, e, row.scale)
 }
 
 // A space, and bytes.
-fn put_spaced_hex(out: &mut [u8], at: usize, bytes: &[u8]) -> usize
+fn put_spaced_hex(stdout: &mut Output, out: &mut [u8], at: usize, bytes: &[u8]) -> usize
     ensures { Put out.old at (spaced_hex bytes.now) out.new result }
 {
-    let next = put(out, at, b" ");
-    put_hex(out, next, bytes)
+    let next = put(stdout, out, at, b" ");
+    put_hex(stdout, out, next, bytes)
 }
 
 // A row, its string and its default.
-pub fn put_row(out: &mut [u8], at: usize, row: Entry, text: &[u8], default: &[u8]) -> usize
+pub fn put_row(
+    stdout: &mut Output,
+    out: &mut [u8],
+    at: usize,
+    row: Entry,
+    text: &[u8],
+    default: &[u8],
+) -> usize
     ensures { Put out.old at (row_line row text.now default.now) out.new result }
 {
     let kind = row.kind;
-    let a = put(out, at, b"row ");
-    let b = put_kind(out, a, kind);
-    let c = put_numbers(out, b, row, own_size(row, default));
-    let d = put_spaced_hex(out, c, text);
-    let e = put_spaced(out, d, default_position(row, default));
-    let f = put_spaced_hex(out, e, default);
-    put(out, f, b"\n")
+    let a = put(stdout, out, at, b"row ");
+    let b = put_kind(stdout, out, a, kind);
+    let c = put_numbers(stdout, out, b, row, own_size(row, default));
+    let d = put_spaced_hex(stdout, out, c, text);
+    let e = put_spaced(stdout, out, d, default_position(row, default));
+    let f = put_spaced_hex(stdout, out, e, default);
+    put(stdout, out, f, b"\n")
 }
 
 // n rows of a set's memory from row `start` on, which it has.
-fn put_each(out: &mut [u8], at: usize, mem: &[u8], start: usize, n: usize) -> usize
+fn put_each(
+    stdout: &mut Output,
+    out: &mut [u8],
+    at: usize,
+    mem: &[u8],
+    start: usize,
+    n: usize,
+) -> usize
     requires { (length mem.now ≡ layout_length) × (start + n ≤ row_limit) }
     ensures { Put out.old at (row_lines mem.now n start) out.new result }
 {
@@ -114,7 +128,7 @@ fn put_each(out: &mut [u8], at: usize, mem: &[u8], start: usize, n: usize) -> us
         let row = read_row(mem, i);
         let text = string_of(mem, i);
         let default = default_of(mem, i);
-        end = put_row(out, end, row, text, default);
+        end = put_row(stdout, out, end, row, text, default);
         i += 1;
         left -= 1;
     }
@@ -134,11 +148,18 @@ fn has_rows(mem: &[u8], start: usize, n: usize) -> bool
 }
 
 // n rows of a set's memory from row `start` on; nothing where it does not have them.
-pub fn put_rows(out: &mut [u8], at: usize, mem: &[u8], start: usize, n: usize) -> usize
+pub fn put_rows(
+    stdout: &mut Output,
+    out: &mut [u8],
+    at: usize,
+    mem: &[u8],
+    start: usize,
+    n: usize,
+) -> usize
     ensures { Put out.old at (rows_text mem.now n start) out.new result }
 {
     if !has_rows(mem, start, n) {
         return at;
     }
-    put_each(out, at, mem, start, n)
+    put_each(stdout, out, at, mem, start, n)
 }

@@ -1,8 +1,9 @@
 // Standard input line by line. A line is handed out before more is read than what came with it.
-ghost use Rattle.std.specs.Prelude.{◌<◌, ◌≤◌, length};
+ghost use Rattle.std.specs.Prelude.{◌<◌, ◌≤◌, length, IfOk};
 ghost use Rattle.script.specs.Input.{Within};
 
-use libc::STDIN_FILENO;
+use std::io;
+use std::io::{Read, Stdin};
 
 // A line without its LF: the buffer's bytes from `from` to `to`. Those from `next` to `end` were read and are left.
 // A line that does not fit the buffer with its LF is cut, and its rest is skipped. At the input's end no line is there.
@@ -85,77 +86,92 @@ fn move_down(buf: &mut [u8], from: usize, end: usize) -> usize
 }
 
 // Reads once, behind the first n bytes, and answers how many bytes there are then: n at the input's end.
-fn read_more(buf: &mut [u8], n: usize) -> usize
+fn read_more(mut stdin: Stdin, buf: &mut [u8], n: usize) -> io::Result<usize>
     requires { n ≤ length buf.old }
-    ensures { (n ≤ result) × (result ≤ length buf.new) }
+    ensures { IfOk result (λ more. (n ≤ more) × (more ≤ length buf.new)) }
 {
     let room = &mut buf[n..];
-    let got = libc::read(STDIN_FILENO, room);
-    n + io::count(got, room)
+    let got = stdin.read(room)?;
+    Ok(n + got)
 }
 
-// Reads until the line ends of which the buffer's first n bytes are there.
-fn read_line(buf: &mut [u8], n: usize) -> Line
-    requires { n ≤ length buf.old }
-    ensures { Within (length buf.new) result }
+// Reads until the buffer is full or the input ends, and answers how many bytes there are.
+pub fn read_full(stdin: Stdin, buf: &mut [u8]) -> io::Result<usize>
+    ensures { IfOk result (λ n. n ≤ length buf.new) }
 {
-    let mut to = n;
+    let mut to = 0;
     while to < buf.len() {
-        let more = read_more(buf, to);
+        let more = read_more(stdin, buf, to)?;
         if more <= to {
-            return last_line(to, false);
-        }
-        let end = line_end(buf, to, more);
-        if end < more {
-            return whole_line(0, end, more);
+            return Ok(to);
         }
         to = more;
     }
-    last_line(to, 0 < to)
+    Ok(to)
+}
+
+// Reads until the line ends of which the buffer's first n bytes are there.
+fn read_line(stdin: Stdin, buf: &mut [u8], n: usize) -> io::Result<Line>
+    requires { n ≤ length buf.old }
+    ensures { IfOk result (Within (length buf.new)) }
+{
+    let mut to = n;
+    while to < buf.len() {
+        let more = read_more(stdin, buf, to)?;
+        if more <= to {
+            return Ok(last_line(to, false));
+        }
+        let end = line_end(buf, to, more);
+        if end < more {
+            return Ok(whole_line(0, end, more));
+        }
+        to = more;
+    }
+    Ok(last_line(to, 0 < to))
 }
 
 // Reads until the line that was cut ends.
-fn skip_line(buf: &mut [u8]) -> Line
-    ensures { Within (length buf.new) result }
+fn skip_line(stdin: Stdin, buf: &mut [u8]) -> io::Result<Line>
+    ensures { IfOk result (Within (length buf.new)) }
 {
     let mut turns = u64::MAX;
     while 0 < turns {
-        let rest = read_line(buf, 0);
+        let rest = read_line(stdin, buf, 0)?;
         if !rest.cut {
-            return rest;
+            return Ok(rest);
         }
         turns -= 1;
     }
-    Line::none()
+    Ok(Line::none())
 }
 
 // The line, or where it was cut its rest. What no line of this buffer has left counts as nothing.
-fn settled(buf: &mut [u8], line: Line) -> Line
-    ensures { (result.next ≤ result.end) × (result.end ≤ length buf.new) }
+fn settled(stdin: Stdin, buf: &mut [u8], line: Line) -> io::Result<Line>
+    ensures { IfOk result (λ rest. (rest.next ≤ rest.end) × (rest.end ≤ length buf.new)) }
 {
     if line.cut {
-        return skip_line(buf);
+        return skip_line(stdin, buf);
     }
     if line.end < line.next {
-        return Line::none();
+        return Ok(Line::none());
     }
     if buf.len() < line.end {
-        return Line::none();
+        return Ok(Line::none());
     }
-    line
+    Ok(line)
 }
 
 // The line after a line.
-pub fn next_line(buf: &mut [u8], before: Line) -> Line
-    ensures { Within (length buf.new) result }
+pub fn next_line(stdin: Stdin, buf: &mut [u8], before: Line) -> io::Result<Line>
+    ensures { IfOk result (Within (length buf.new)) }
 {
-    let line = settled(buf, before);
+    let line = settled(stdin, buf, before)?;
     let from = line.next;
     let end = line.end;
     let to = line_end(buf, from, end);
     if to < end {
-        return whole_line(from, to, end);
+        return Ok(whole_line(from, to, end));
     }
     let n = move_down(buf, from, end);
-    read_line(buf, n)
+    read_line(stdin, buf, n)
 }

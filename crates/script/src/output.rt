@@ -7,12 +7,44 @@ ghost use Rattle.script.specs.Hex.{glyph as Hex·glyph};
 ghost use Rattle.script.specs.Put.{Put};
 
 use ground::{copy, magnitude};
-use libc::STDOUT_FILENO;
+use std::io::{Error, Stdout};
 
-// Writes the first `at` bytes of a buffer.
-pub fn flush(out: &[u8], at: usize) {
-    if at <= out.len() {
-        io::write_all(STDOUT_FILENO, &out[0..at]);
+// Standard output. After a write that failed nothing more is written.
+#[derive(Drop)]
+pub struct Output {
+    to: Stdout,
+    failure: Option<Error>,
+}
+
+impl Output {
+    pub fn new(to: Stdout) -> Self {
+        Output {
+            to: to,
+            failure: None,
+        }
+    }
+
+    fn write(&mut self, bytes: &[u8]) {
+        if self.failure.is_some() {
+            return;
+        }
+        self.failure = self.to.write_all(bytes).err();
+    }
+
+    // Writes the first `at` bytes of a buffer.
+    fn write_front(&mut self, out: &[u8], at: usize) {
+        if at <= out.len() {
+            self.write(&out[0..at]);
+        }
+    }
+}
+
+// Writes the first `at` bytes of a buffer; fails where this write or an earlier one failed.
+pub fn flush(stdout: &mut Output, out: &[u8], at: usize) -> std::io::Result<()> {
+    stdout.write_front(out, at);
+    match stdout.failure {
+        None => Ok(()),
+        Some(e) => Err(e),
     }
 }
 
@@ -26,38 +58,38 @@ fn has_room(out: &[u8], at: usize, n: usize) -> bool
     n <= out.len() - at
 }
 
-pub fn put(out: &mut [u8], at: usize, s: &[u8]) -> usize
+pub fn put(stdout: &mut Output, out: &mut [u8], at: usize, s: &[u8]) -> usize
     ensures { Put out.old at s.now out.new result }
 {
     if has_room(out, at, s.len()) {
         copy(out, at, s);
         return at + s.len();
     }
-    flush(out, at);
+    stdout.write_front(out, at);
     if s.len() <= out.len() {
         copy(out, 0, s);
         return s.len();
     }
-    io::write_all(STDOUT_FILENO, s);
+    stdout.write(s);
     0
 }
 
-pub fn put_decimal(out: &mut [u8], at: usize, n: u64) -> usize
+pub fn put_decimal(stdout: &mut Output, out: &mut [u8], at: usize, n: u64) -> usize
     ensures { Put out.old at (decimal_of n) out.new result }
 {
     let mut digits = [0u8; 20];
     let k = io::decimal(n, &mut digits);
-    put(out, at, &digits[0..k])
+    put(stdout, out, at, &digits[0..k])
 }
 
-pub fn put_signed(out: &mut [u8], at: usize, n: i64) -> usize
+pub fn put_signed(stdout: &mut Output, out: &mut [u8], at: usize, n: i64) -> usize
     ensures { Put out.old at (signed_of n) out.new result }
 {
     if n < 0 {
-        let next = put(out, at, b"-");
-        return put_decimal(out, next, magnitude(n));
+        let next = put(stdout, out, at, b"-");
+        return put_decimal(stdout, out, next, magnitude(n));
     }
-    put_decimal(out, at, magnitude(n))
+    put_decimal(stdout, out, at, magnitude(n))
 }
 
 fn glyph(d: u8) -> u8
@@ -67,17 +99,17 @@ fn glyph(d: u8) -> u8
     if d < 10 { 48 + d } else { 87 + d }
 }
 
-pub fn put_hex(out: &mut [u8], at: usize, s: &[u8]) -> usize
+pub fn put_hex(stdout: &mut Output, out: &mut [u8], at: usize, s: &[u8]) -> usize
     ensures { Put out.old at (hex_of s.now) out.new result }
 {
     if s.len() == 0 {
-        return put(out, at, b"-");
+        return put(stdout, out, at, b"-");
     }
     let mut end = at;
     let mut i = 0;
     while i < s.len() {
         let pair = [glyph(s[i] / 16), glyph(s[i] % 16)];
-        end = put(out, end, &pair);
+        end = put(stdout, out, end, &pair);
         i += 1;
     }
     end

@@ -7,7 +7,9 @@ ghost use Rattle.json_scan.specs.Json.{longest};
 ghost use Rattle.view.specs.Known.{Known};
 
 use ground::byte_at;
-use libc::STDOUT_FILENO;
+use script::input::read_full;
+use std::io;
+use std::io::Stdout;
 use view::{Members, Shape, Size, Spot};
 
 fn digit(b: u8) -> u8
@@ -50,236 +52,231 @@ fn wide(b: u8) -> u64 {
     b as u64
 }
 
-fn print_bytes(s: &[u8]) {
+fn print_bytes(stdout: Stdout, s: &[u8]) -> io::Result<()> {
     let mut i: usize = 0;
     while i < s.len() {
-        io::print_hex(STDOUT_FILENO, wide(s[i]), 2);
+        print!(stdout; "{:02x}", wide(s[i]))?;
         i += 1;
     }
+    Ok(())
 }
 
-fn print_number(n: usize) {
-    io::write_all(STDOUT_FILENO, b" ");
-    io::print_decimal(STDOUT_FILENO, n as u64);
+fn print_number(stdout: Stdout, n: usize) -> io::Result<()> {
+    print!(stdout; " {n}")
 }
 
-fn print_flag(flag: bool) {
+fn print_flag(stdout: Stdout, flag: bool) -> io::Result<()> {
     if flag {
-        io::write_all(STDOUT_FILENO, b" yes");
+        print!(stdout; " yes")
     } else {
-        io::write_all(STDOUT_FILENO, b" no");
+        print!(stdout; " no")
     }
 }
 
-fn print_spot(s: Spot) {
+fn print_spot(stdout: Stdout, s: Spot) -> io::Result<()> {
     match s {
-        Spot::At(p) => print_number(p),
-        Spot::Nowhere => {
-            io::write_all(STDOUT_FILENO, b" -");
-        }
+        Spot::At(p) => print_number(stdout, p),
+        Spot::Nowhere => print!(stdout; " -"),
     }
 }
 
 // The length of the string, and its first 16 bytes.
-fn print_string(text: &[u8], ends: &[u16], at: usize)
+fn print_string(stdout: Stdout, text: &[u8], ends: &[u16], at: usize) -> io::Result<()>
     requires { Known text.now ends.now }
 {
     let mut out = [0u8; 16];
     let n = view::string_copy(text, ends, at, &mut out);
-    print_number(view::string_length(text, at));
-    io::write_all(STDOUT_FILENO, b" ");
+    print_number(stdout, view::string_length(text, at))?;
+    print!(stdout; " ")?;
     if n < 16 {
-        print_bytes(&out[0..n]);
+        print_bytes(stdout, &out[0..n])?;
     } else {
-        print_bytes(&out);
+        print_bytes(stdout, &out)?;
     }
-    print_flag(view::string_is(text, ends, at, b"record"));
+    print_flag(stdout, view::string_is(text, ends, at, b"record"))
 }
 
-fn print_size(s: Size) {
+fn print_size(stdout: Stdout, s: Size) -> io::Result<()> {
     match s {
-        Size::Value(v) => {
-            io::write_all(STDOUT_FILENO, b" ");
-            io::print_decimal(STDOUT_FILENO, v);
-        }
-        Size::NoSize => {
-            io::write_all(STDOUT_FILENO, b" -");
-        }
+        Size::Value(v) => print!(stdout; " {v}"),
+        Size::NoSize => print!(stdout; " -"),
     }
 }
 
-fn print_members(m: Members) {
+fn print_members(stdout: Stdout, m: Members) -> io::Result<()> {
     let typed = m.typed;
-    print_spot(typed);
+    print_spot(stdout, typed)?;
     let name = m.name;
-    print_spot(name);
+    print_spot(stdout, name)?;
     let namespace = m.namespace;
-    print_spot(namespace);
+    print_spot(stdout, namespace)?;
     let aliases = m.aliases;
-    print_spot(aliases);
+    print_spot(stdout, aliases)?;
     let fields = m.fields;
-    print_spot(fields);
+    print_spot(stdout, fields)?;
     let symbols = m.symbols;
-    print_spot(symbols);
+    print_spot(stdout, symbols)?;
     let default = m.default;
-    print_spot(default);
+    print_spot(stdout, default)?;
     let size = m.size;
-    print_spot(size);
+    print_spot(stdout, size)?;
     let items = m.items;
-    print_spot(items);
+    print_spot(stdout, items)?;
     let values = m.values;
-    print_spot(values);
+    print_spot(stdout, values)?;
     let logical_type = m.logical_type;
-    print_spot(logical_type);
+    print_spot(stdout, logical_type)?;
     let precision = m.precision;
-    print_spot(precision);
+    print_spot(stdout, precision)?;
     let scale = m.scale;
-    print_spot(scale);
+    print_spot(stdout, scale)
 }
 
-fn print_same(text: &[u8], ends: &[u16], first: Spot, p: usize)
+fn print_same(stdout: Stdout, text: &[u8], ends: &[u16], first: Spot, p: usize) -> io::Result<()>
     requires { Known text.now ends.now }
 {
     match first {
-        Spot::At(q) => print_flag(view::strings_same(text, ends, q, p)),
-        Spot::Nowhere => return,
+        Spot::At(q) => print_flag(stdout, view::strings_same(text, ends, q, p)),
+        Spot::Nowhere => Ok(()),
     }
 }
 
 // Each element, and whether it is the same string as the first.
-fn print_elements(text: &[u8], ends: &[u16], at: usize)
+fn print_elements(stdout: Stdout, text: &[u8], ends: &[u16], at: usize) -> io::Result<()>
     requires { Known text.now ends.now }
 {
     let first = view::first_element(text, at);
     let mut spot = view::first_element(text, at);
     loop {
         match spot {
-            Spot::Nowhere => return,
+            Spot::Nowhere => return Ok(()),
             Spot::At(p) => {
-                print_number(p);
-                print_same(text, ends, first, p);
+                print_number(stdout, p)?;
+                print_same(stdout, text, ends, first, p)?;
                 spot = view::next_element(text, ends, p);
             }
         }
     }
 }
 
-fn print_value(text: &[u8], ends: &[u16], at: usize)
+fn print_value(stdout: Stdout, text: &[u8], ends: &[u16], at: usize) -> io::Result<()>
     requires { Known text.now ends.now }
 {
-    print_number(at);
-    print_number(view::end(text, ends, at));
+    print_number(stdout, at)?;
+    print_number(stdout, view::end(text, ends, at))?;
     match view::shape_at(text, at) {
         Shape::Text => {
-            io::write_all(STDOUT_FILENO, b" string");
-            print_string(text, ends, at);
+            print!(stdout; " string")?;
+            print_string(stdout, text, ends, at)?;
         }
         Shape::Number => {
-            io::write_all(STDOUT_FILENO, b" number");
-            print_size(view::size_literal(text, at));
+            print!(stdout; " number")?;
+            print_size(stdout, view::size_literal(text, at))?;
         }
         Shape::Object => {
-            io::write_all(STDOUT_FILENO, b" object");
-            print_members(view::members_at(text, ends, at));
+            print!(stdout; " object")?;
+            print_members(stdout, view::members_at(text, ends, at))?;
         }
         Shape::Array => {
-            io::write_all(STDOUT_FILENO, b" array");
-            print_elements(text, ends, at);
+            print!(stdout; " array")?;
+            print_elements(stdout, text, ends, at)?;
         }
         Shape::Word => {
-            io::write_all(STDOUT_FILENO, b" word");
+            print!(stdout; " word")?;
         }
         Shape::Nothing => {
-            io::write_all(STDOUT_FILENO, b" nothing");
+            print!(stdout; " nothing")?;
         }
     }
-    io::write_all(STDOUT_FILENO, b"\n");
+    println!(stdout)
 }
 
-fn print_inner(text: &[u8], ends: &[u16], s: Spot)
+fn print_inner(stdout: Stdout, text: &[u8], ends: &[u16], s: Spot) -> io::Result<()>
     requires { Known text.now ends.now }
 {
     match s {
         Spot::At(p) => {
-            io::write_all(STDOUT_FILENO, b" ");
-            print_value(text, ends, p);
+            print!(stdout; " ")?;
+            print_value(stdout, text, ends, p)
         }
-        Spot::Nowhere => return,
+        Spot::Nowhere => Ok(()),
     }
 }
 
-fn print_all_elements(text: &[u8], ends: &[u16], at: usize)
+fn print_all_elements(stdout: Stdout, text: &[u8], ends: &[u16], at: usize) -> io::Result<()>
     requires { Known text.now ends.now }
 {
     let mut spot = view::first_element(text, at);
     loop {
         match spot {
-            Spot::Nowhere => return,
+            Spot::Nowhere => return Ok(()),
             Spot::At(p) => {
-                print_inner(text, ends, Spot::At(p));
+                print_inner(stdout, text, ends, Spot::At(p))?;
                 spot = view::next_element(text, ends, p);
             }
         }
     }
 }
 
-fn print_all_members(text: &[u8], ends: &[u16], m: Members)
+fn print_all_members(stdout: Stdout, text: &[u8], ends: &[u16], m: Members) -> io::Result<()>
     requires { Known text.now ends.now }
 {
     let typed = m.typed;
-    print_inner(text, ends, typed);
+    print_inner(stdout, text, ends, typed)?;
     let name = m.name;
-    print_inner(text, ends, name);
+    print_inner(stdout, text, ends, name)?;
     let namespace = m.namespace;
-    print_inner(text, ends, namespace);
+    print_inner(stdout, text, ends, namespace)?;
     let aliases = m.aliases;
-    print_inner(text, ends, aliases);
+    print_inner(stdout, text, ends, aliases)?;
     let fields = m.fields;
-    print_inner(text, ends, fields);
+    print_inner(stdout, text, ends, fields)?;
     let symbols = m.symbols;
-    print_inner(text, ends, symbols);
+    print_inner(stdout, text, ends, symbols)?;
     let default = m.default;
-    print_inner(text, ends, default);
+    print_inner(stdout, text, ends, default)?;
     let size = m.size;
-    print_inner(text, ends, size);
+    print_inner(stdout, text, ends, size)?;
     let items = m.items;
-    print_inner(text, ends, items);
+    print_inner(stdout, text, ends, items)?;
     let values = m.values;
-    print_inner(text, ends, values);
+    print_inner(stdout, text, ends, values)?;
     let logical_type = m.logical_type;
-    print_inner(text, ends, logical_type);
+    print_inner(stdout, text, ends, logical_type)?;
     let precision = m.precision;
-    print_inner(text, ends, precision);
+    print_inner(stdout, text, ends, precision)?;
     let scale = m.scale;
-    print_inner(text, ends, scale);
+    print_inner(stdout, text, ends, scale)
 }
 
-fn print_views(text: &[u8], ends: &[u16])
+fn print_views(stdout: Stdout, text: &[u8], ends: &[u16]) -> io::Result<()>
     requires { Known text.now ends.now }
 {
     let at = view::value_start(text);
-    print_value(text, ends, at);
-    print_all_elements(text, ends, at);
-    print_all_members(text, ends, view::members_at(text, ends, at));
+    print_value(stdout, text, ends, at)?;
+    print_all_elements(stdout, text, ends, at)?;
+    print_all_members(stdout, text, ends, view::members_at(text, ends, at))
 }
 
 // The views of a text, with a table of its ends.
-fn print_text(text: &[u8])
+fn print_text(stdout: Stdout, text: &[u8]) -> io::Result<()>
     requires { length text.now ≤ longest }
 {
     let mut table = [0u16; 1024];
     view::find_ends(text, &mut table);
-    print_views(text, &table);
+    print_views(stdout, text, &table)
 }
 
-fn main() {
-    let mut input = io::large_buffer();
-    let n = io::read_full(0, &mut input);
+fn main(rt: HostRuntime) -> io::Result<()> {
+    let stdout = rt.stdout();
+    let mut input = [0u8; 65536];
+    let n = read_full(rt.stdin(), &mut input)?;
     let mut text = [0u8; 1024];
     let mut p: usize = 0;
     while p < n {
         let m = unhex(&input, p, &mut text);
-        print_text(&text[0..m]);
+        print_text(stdout, &text[0..m])?;
         p += 2 * m + 1;
     }
+    Ok(())
 }

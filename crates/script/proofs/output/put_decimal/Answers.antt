@@ -6,4 +6,4 @@ use Rattle.script.proofs.Laws.{put_is}
 use Rattle.script.proofs.output.put_decimal.Goals as goal
 
 pub returns : goal.returns
-returns c = put_is (decimal_digits _ _ _ c.decimal-k.ensures.1.0 c.ranges.n.fits c.decimal-k.ensures.1.1) c.put.ensures
+returns c = put_is (decimal_digits _ _ _ c.decimal-k.ensures.len c.ranges.n.fits c.decimal-k.ensures.digits) c.put.ensures

@@ -1,6 +1,5 @@
 -- `script::words::word_start` meets its contract: the word that is looked for is the same in what is left of the line.
 -- Assumes nothing.
-use mathlib.Core.Logic.{⊎_elim}
 use mathlib.Core.Path.{◌≡◌, refl}
 use Prim.Native.Nat.{◌-◌, ◌≤◌}
 use lib.ListN.{length, drop}
@@ -8,6 +7,7 @@ use borrow.Author.Rules.{rules}
 use Rattle.script.specs.Words.{word_at}
 use Rattle.script.proofs.WordLaws.{start_here, start_none, start_space, start_other}
 use Rattle.script.proofs.words.word_start.Goals as goal
+use Rattle.script.proofs.words.word_start.Goals.{then-line-at-eq32, else-line-at-eq32}
 
 pub loop-at-init : goal.loop-at-init
 loop-at-init c = (search rules, refl)
@@ -18,10 +18,10 @@ returns-then-left-eq0 c = (search rules, start_here c.args.line.now c.loop-at.at
 pub loop-at-preserved : goal.loop-at-preserved
 loop-at-preserved c = (
   search rules,
-  ⊎_elim
-      (λ w. start_space _ _ _ _ c.loop-at.invariant.1 c.loop-at-test.true c.if-left-eq0.false w.0.taken _ w.1)
-      (λ w. start_other _ _ _ _ c.loop-at.invariant.1 c.loop-at-test.true c.if-left-eq0.false w.0.left _ w.1)
-      c.if-line-at-eq32.branch,
+  elim c.if-line-at-eq32.branch [
+    | then-line-at-eq32 w ↦ start_space _ _ _ _ c.loop-at.invariant.1 c.loop-at-test.true c.if-left-eq0.false w.if-line-at-eq32.true _ w.left-is
+    | else-line-at-eq32 w ↦ start_other _ _ _ _ c.loop-at.invariant.1 c.loop-at-test.true c.if-left-eq0.false w.if-line-at-eq32.false _ w.left-is
+  ],
 )
 
 pub returns : goal.returns
