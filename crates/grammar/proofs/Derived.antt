@@ -14,7 +14,7 @@ use Rattle.json_scan.specs.Json as A
 use Rattle.json_scan.specs.Json.{live, moved, reach, dead}
 use Rattle.json_scan.proofs.Parts.{dead_stays}
 use Rattle.json_scan.specs.Meets.{closer}
-use Rattle.grammar.specs.Grammar.{Rule, Bytes, bytes, Byte, Range, within, ◌·◌, join, ◌/◌, this, that, Optional, absent, present, Many, none, more, Some, ws, value_separator, false as false-word, null as null_word, true as true-word, DIGIT, minus, int, frac, exp, e, number, digit_D, digit_not_D, unescaped, UTF8_tail, UTF8_3, char, quotation_mark, string, value, JSON_text}
+use Rattle.grammar.specs.Grammar.{Rule, Bytes, bytes, Byte, Range, within, ◌·◌, join, ◌/◌, this, that, Optional, absent, present, Many, none, more, Some, ws, value_separator, false as false-word, null as null_word, true as true-word, DIGIT, int, frac, exp, e, number, digit_D, digit_not_D, unescaped, UTF8_tail, UTF8_3, char, quotation_mark, string, value, JSON_text}
 use Rattle.grammar.proofs.Endings.{taken, refused, ending, going}
 use Rattle.grammar.proofs.Bracketed.{opener, end_bracket, bracketed}
 use Rattle.grammar.proofs.Rests.{NumRest, Chars, quote, next as next-char, StrRest, Held, Item, After, over, space, close, comma, Opened, Keyed, Left}

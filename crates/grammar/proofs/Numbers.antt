@@ -9,7 +9,7 @@ use borrow.Author.Tests.{ne_eqb}
 use lib.Dec.{eqb}
 use Rattle.json_scan.specs.Json.{Mode, Stack, Move, go, step, closes, is_digit, is_e, one, Num, num, done, number as number-move}
 use Rattle.json_scan.specs.Json as A
-use Rattle.grammar.specs.Grammar.{Byte, ◌·◌, join, ◌/◌, this, that, Optional, absent, present, Many, DIGIT, minus, digit1_9, e, int, frac, exp, number}
+use Rattle.grammar.specs.Grammar.{Byte, ◌·◌, join, ◌/◌, this, that, Optional, absent, present, Many, DIGIT, digit1_9, int, frac, exp, number}
 use Rattle.grammar.proofs.Endings.{ending, going}
 use Rattle.grammar.proofs.Takes.{Takes, Like, like_then, take_byte, take_range, take_alt, take_join, take_many}
 use Rattle.grammar.proofs.Classes.{inside_true}

@@ -7,7 +7,7 @@ use lib.ListN.{length}
 use Rattle.json_scan.specs.Json.{Mode, Stack, Bracket, square, brace, is_space, Num, Inside, val, first, done, key0, key, colon, word, num, str, as_key, as_value, plain, esc, h1, h2, h2d, h3, h4, g3, g4, g5, g6, g7, g8, tail}
 use Rattle.json_scan.specs.Json as A
 use Rattle.json_scan.specs.Meets.{closer}
-use Rattle.grammar.specs.Grammar.{Rule, Bytes, Byte, Range, ◌·◌, ◌/◌, that, Optional, Many, Some, ws, DIGIT, minus, plus, int, frac, exp, HEXDIG, low_surrogate, hexchar, short, char, value}
+use Rattle.grammar.specs.Grammar.{Rule, Bytes, Byte, Range, ◌·◌, ◌/◌, Optional, Many, Some, ws, DIGIT, minus, plus, int, frac, exp, HEXDIG, low_surrogate, hexchar, short, char, value}
 use Rattle.grammar.proofs.Bracketed.{item}
 
 -- ---- within a number

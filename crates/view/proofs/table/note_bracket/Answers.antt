@@ -2,9 +2,7 @@
 -- Assumes nothing.
 use mathlib.Core.Path.{sym, ◌∙◌}
 use native.Mathlib.Omega.{arith}
-use borrow.Author.Tests.{not-true, not-false}
 use Rattle.view.proofs.Filling.{stack_open, stack_other, stack_close, close_noted}
-use borrow.Author.Rules.{rules}
 use Rattle.view.proofs.table.note_bracket.Goals as goal
 
 pub returns-then-is_bracket : goal.returns-then-is_bracket
