@@ -2,9 +2,7 @@
 -- Assumes nothing.
 use mathlib.Core.Path.{sym, ◌∙◌}
 use native.Mathlib.Omega.{arith}
-use borrow.Author.Rules.{rules}
-use borrow.Author.Tests.{not-true, not-false}
-use Rattle.formed.proofs.DecodeLaws.{left, formed_not, formed_long, formed_few, formed_fit, formed_asks, formed_bad, formed_faulty, formed_last}
+use Rattle.formed.proofs.DecodeLaws.{formed_not, formed_long, formed_few, formed_fit, formed_asks, formed_bad, formed_faulty, formed_last}
 use Rattle.formed.proofs.well_formed.Goals as goal
 
 pub returns-then-not-is_encoding : goal.returns-then-not-is_encoding

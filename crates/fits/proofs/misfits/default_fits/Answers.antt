@@ -1,9 +1,7 @@
 -- `fits::misfits::default_fits` meets its contract.
 -- Assumes nothing.
 use mathlib.Core.Path.{sym, ◌∙◌}
-use borrow.Author.Tests.{not-true, not-false}
 use Rattle.fits.proofs.MisfitLaws.{without_default, with_default_lem}
-use borrow.Author.Rules.{rules}
 use Rattle.fits.proofs.misfits.default_fits.Goals as goal
 
 pub returns-then-not-has_default : goal.returns-then-not-has_default

@@ -1,13 +1,7 @@
 -- `fits::misfits::first_misfit` meets its contract: the first misfit of the rows that are left is the first.
 -- Assumes nothing.
-use mathlib.Core.Path.{◌≡◌, refl, ap}
-use Prim.Native.Nat.{◌+◌, ◌-◌, ◌≤◌}
-use lib.ListN.{length}
-use borrow.Author.Tests.{not-true, not-false}
-use Rattle.row.specs.Layout.{row_limit}
-use Rattle.row.specs.Sets.{rows_from}
+use mathlib.Core.Path.{refl, ap}
 use Rattle.fits.specs.Misfits.{misfit_in}
-use Rattle.fits.specs.Steps.{type_at, Found}
 use Rattle.fits.proofs.MisfitLaws.{rows_last, misfit_end, misfit_here, misfit_on}
 use Rattle.fits.proofs.DefinitionLaws.{found_zeros}
 use borrow.Author.Rules.{rules}

@@ -1,26 +1,12 @@
 -- The walk of `fits::walk` meets its contracts: each way out is one law, each loop's answer for what is left is the answer, and
 -- tables that are true stay true.
 -- Assumes nothing.
-use mathlib.Core.Path.{◌≡◌, refl, sym, ◌∙◌}
-use Prim.Native.Nat.{◌+◌, ◌-◌, ◌*◌, ◌≤◌}
+use mathlib.Core.Path.{refl, sym, ◌∙◌}
 use native.Mathlib.Omega.{arith}
-use borrow.Author.Rules.{rules}
 use Rattle.fits.proofs.TableLaws.{true_no, true_yes, noted_no, noted_yes}
 use Rattle.fits.proofs.RowLaws.{some_end, some_found, some_on, every_end, every_bad, every_on}
-use Rattle.fits.proofs.FitLaws.{then_true, then_false, each_start, each_done, each_bad, each_on, each_less, Visiting, visit_start, visit_end, visit_bad, visit_on, member_none, member_value, plain_none, any_none, field_other, field_value, field_default, nested_array, nested_map, nested_record, one_reference, one_self, any_union, any_one, some_start, every_start, fits_none, fits_more}
-use Rattle.view.proofs.Laws.{key_of, pass_less}
-use Rattle.resolve.specs.Rules.{some}
-use Rattle.fits.specs.Types.{parts_under}
-use Rattle.fits.specs.Fits.{member_fits, field_fits, one_fits}
-use Rattle.fits.specs.Steps.{type_at, parts_from, fitting, Verdicts, Found}
-use Rattle.view.specs.Elements.{elements_at, elements}
-use Rattle.view.specs.Members.{keys_at, members_at}
-use Rattle.name.specs.Name.{every}
-use Rattle.row.specs.Memory.{entry_at}
-use Rattle.row.specs.Sets.{rows_from}
-use lib.ListN.{length}
-use borrow.Author.Tests.{not-true, not-false}
-use Prim.Native.Nat.{ℕ, ◌<◌}
+use Rattle.fits.proofs.FitLaws.{then_true, then_false, each_start, each_done, each_bad, each_on, each_less, visit_start, visit_end, visit_bad, visit_on, member_none, member_value, plain_none, any_none, field_other, field_value, field_default, nested_array, nested_map, nested_record, one_reference, one_self, any_union, any_one, some_start, every_start, fits_none, fits_more}
+use Rattle.view.proofs.Laws.{pass_less}
 use Rattle.fits.proofs.walk.+any_array_field_fits_at_map_nested_one_plain_record_of_some_one.Goals as goal
 
 pub any-returns-then-n-row : goal.any-returns-then-n-row

@@ -1,8 +1,6 @@
 -- `form::names::alias` meets its contract.
 -- Assumes nothing.
 use native.Mathlib.Omega.{arith}
-use borrow.Author.Rules.{rules}
-use borrow.Author.Tests.{not-false, not-true}
 use Rattle.form.proofs.Written.{alias_kept, alias_not, copied}
 use Rattle.form.proofs.names.alias.Goals as goal
 

@@ -1,8 +1,6 @@
 -- `form::names::definition` meets its contract: a law for each of its four ways out.
 -- Assumes nothing.
 use native.Mathlib.Omega.{arith}
-use borrow.Author.Rules.{rules}
-use borrow.Author.Tests.{not-false, not-true}
 use Rattle.form.proofs.Written.{copied, definition_dot, definition_enclosed, definition_not, definition_space, spaced_plain}
 use Rattle.form.proofs.names.definition.Goals as goal
 

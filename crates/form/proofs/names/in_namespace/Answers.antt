@@ -1,8 +1,6 @@
 -- `form::names::in_namespace` meets its contract: a law for each of its four ways out.
 -- Assumes nothing.
 use native.Mathlib.Omega.{arith}
-use borrow.Author.Rules.{rules}
-use borrow.Author.Tests.{not-false, not-true}
 use Rattle.form.proofs.Written.{copied, moved, spaced_kept, spaced_long, spaced_not, spaced_reserved}
 use Rattle.form.proofs.names.in_namespace.Goals as goal
 

@@ -1,8 +1,6 @@
 -- `form::names::reference` meets its contract.
 -- Assumes nothing.
 use native.Mathlib.Omega.{arith}
-use borrow.Author.Rules.{rules}
-use borrow.Author.Tests.{not-false, not-true}
 use Rattle.form.proofs.Written.{copied, reference_kept, reference_not}
 use Rattle.form.proofs.names.reference.Goals as goal
 

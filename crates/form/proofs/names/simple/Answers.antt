@@ -1,8 +1,6 @@
 -- `form::names::simple` meets its contract.
 -- Assumes nothing.
-use borrow.Author.Tests.{not-false, not-true}
 use Rattle.form.proofs.Written.{simple_kept, simple_not}
-use borrow.Author.Rules.{rules}
 use Rattle.form.proofs.names.simple.Goals as goal
 
 pub returns-then-not-is_simple : goal.returns-then-not-is_simple

@@ -1,8 +1,6 @@
 -- `resolve::clash::same_symbol` meets its contract.
 -- Assumes nothing.
 use mathlib.Core.Path.{sym, ◌∙◌}
-use borrow.Author.Rules.{rules}
-use borrow.Author.Tests.{not-true, not-false}
 use Rattle.resolve.specs.Rules.{same_symbol}
 use Rattle.resolve.proofs.clash.same_symbol.Goals as goal
 

@@ -1,8 +1,6 @@
 -- `resolve::clash::takes_name` meets its contract.
 -- Assumes nothing.
 use mathlib.Core.Path.{sym, ◌∙◌}
-use borrow.Author.Rules.{rules}
-use borrow.Author.Tests.{not-true, not-false}
 use Rattle.resolve.specs.Rules.{takes_name}
 use Rattle.resolve.proofs.clash.takes_name.Goals as goal
 

@@ -1,9 +1,7 @@
 -- `resolve::declaration::good_row` meets its contract.
 -- Assumes nothing.
 use mathlib.Core.Path.{sym, ◌∙◌}
-use borrow.Author.Tests.{not-true, not-false}
 use Rattle.resolve.proofs.TreeLaws.{row_strings, row_numbers_lem, row_parts, row_last}
-use borrow.Author.Rules.{rules}
 use Rattle.resolve.proofs.declaration.good_row.Goals as goal
 
 pub returns-then-not-good_strings : goal.returns-then-not-good_strings

@@ -1,9 +1,7 @@
 -- `resolve::declaration::is_declaration_by` meets its contract.
 -- Assumes nothing.
 use mathlib.Core.Path.{refl, sym, ◌∙◌}
-use borrow.Author.Tests.{not-true, not-false}
 use Rattle.resolve.proofs.TreeLaws.{declaration_none, declaration_deep, declaration_kind, declaration_climb, declaration_last}
-use borrow.Author.Rules.{rules}
 use Rattle.resolve.proofs.declaration.is_declaration_by.Goals as goal
 
 pub returns-then-n-eq0 : goal.returns-then-n-eq0

@@ -1,9 +1,7 @@
 -- `resolve::defaults::is_default` meets its contract.
 -- Assumes nothing.
 use mathlib.Core.Path.{sym, ◌∙◌}
-use borrow.Author.Tests.{not-true, not-false}
 use Rattle.resolve.proofs.DefaultLaws.{too_long, not_passed, passed}
-use borrow.Author.Rules.{rules}
 use Rattle.resolve.proofs.defaults.is_default.Goals as goal
 
 pub returns-then-text-gt-LONGEST : goal.returns-then-text-gt-LONGEST

@@ -5,9 +5,8 @@ use Rattle.row.specs.Memory.{entry_at}
 use mathlib.Core.Path.{sym, ap, ap₂, ◌∙◌}
 use Prim.Native.Nat.{ℕ}
 use lib.Dec.{ltb}
-use borrow.Author.Tests.{le-ltb, lt-ltb, not-true, not-false}
+use borrow.Author.Tests.{le-ltb, lt-ltb}
 use Rattle.resolve.specs.Rules.{good_note, good_precision, good_numbers}
-use borrow.Author.Rules.{rules}
 use Rattle.resolve.proofs.numbers.good_numbers.Goals as goal
 
 pub returns-then-position_at-ge-TEXT : goal.returns-then-position_at-ge-TEXT

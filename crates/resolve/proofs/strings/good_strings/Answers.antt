@@ -1,10 +1,8 @@
 -- `resolve::strings::good_strings` meets its contract: a default, and a string by its kind.
 -- Assumes nothing.
 use mathlib.Core.Path.{sym, ap, ◌∙◌}
-use borrow.Author.Tests.{not-true, not-false}
 use Rattle.resolve.specs.Rules.{good_text}
 use Rattle.resolve.proofs.TreeLaws.{bad_default, fine_default}
-use borrow.Author.Rules.{rules}
 use Rattle.resolve.proofs.strings.good_strings.Goals as goal
 
 pub returns-then-not-good_default : goal.returns-then-not-good_default

@@ -1,10 +1,8 @@
 -- `rules::fields::field_name` meets its contract: a name that is not marked is surely new.
 -- Assumes nothing.
 use mathlib.Core.Path.{refl}
-use borrow.Author.Tests.{not-false, not-true}
 use Rattle.rules.proofs.Listed.{field_new, field_skipped}
 use Rattle.rules.proofs.Entering.{entered_names, entered_none, unmarked}
-use borrow.Author.Rules.{rules}
 use Rattle.rules.proofs.fields.field_name.Goals as goal
 
 pub returns-then-not-is_object : goal.returns-then-not-is_object

@@ -1,10 +1,8 @@
 -- `rules::members::enter_name` meets its contract: a full name whose mark is new is that of no member before.
 -- Assumes nothing.
 use mathlib.Core.Path.{◌∙◌, ap}
-use borrow.Author.Tests.{not-true}
 use Rattle.seen.specs.Seen.{entered}
 use Rattle.rules.proofs.Surely.{name_unmarked}
-use borrow.Author.Rules.{rules}
 use Rattle.rules.proofs.members.enter_name.Goals as goal
 
 pub enter-requires : goal.enter-requires

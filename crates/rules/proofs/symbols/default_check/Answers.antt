@@ -1,7 +1,5 @@
 -- `rules::symbols::default_check` meets its contract.
 -- Assumes nothing.
-use borrow.Author.Rules.{rules}
-use borrow.Author.Tests.{not-false, not-true}
 use Rattle.rules.proofs.Listed.{default_none, default_not, default_text}
 use Rattle.rules.proofs.symbols.default_check.Goals as goal
 

@@ -1,28 +1,16 @@
 -- Any schema: the six functions that read one another meet their contracts.
 -- Assumes nothing.
-use Rattle.schema.proofs.Nested.{member, schema_deep, schema_wrong, schema_word, schema_array, schema_map, schema_union, schema_record, schema_enum, schema_fixed, part_old, part_none, part_one, union_old, union_rows_lem, record_bad, record_none, record_fields, fields_bad, fields_end, fields_done, fields_next, element_none, element_field, field_stop, field_untyped, field_typed}
+use Rattle.schema.proofs.Nested.{schema_deep, schema_wrong, schema_word, schema_array, schema_map, schema_union, schema_record, schema_enum, schema_fixed, part_old, part_none, part_one, union_old, union_rows_lem, record_bad, record_none, record_fields, fields_bad, fields_end, fields_done, fields_next, element_none, element_field, field_stop, field_untyped, field_typed}
 use Rattle.schema.proofs.Leaves.{default_in}
 use Rattle.schema.proofs.Steps.{each_done, each_next}
 use Rattle.schema.proofs.Stands.{member_is, sure_here, sure_next, sure_start}
-use Rattle.rules.specs.Members.{SureOf}
 use Rattle.seen.proofs.Laws.{sized_as}
 use Rattle.schema.proofs.Within.{array_within, map_within, union_within}
 use Rattle.schema.proofs.Did.{did_bad, did_none, did_eq, did_stop, did_then, titled_front}
-use Rattle.schema.specs.Did.{Did}
-use Rattle.schema.specs.Schema.{within, field_rows, schema_of}
-use Rattle.schema.specs.Out.{each}
-use Rattle.schema.specs.declared.walked.Walked.{Walked}
 use Rattle.form.proofs.Laws.{visit_less, found_form}
-use Rattle.form.specs.Spots.{objects_among}
-use Rattle.view.specs.Elements.{elements_at}
-use lib.ListN.{length}
-use Prim.Native.Nat.{◌+◌, ◌*◌}
-use mathlib.Core.List.{List}
-use mathlib.Core.Path.{◌≡◌, refl, ◌∙◌}
+use mathlib.Core.Path.{refl, ◌∙◌}
 use native.Mathlib.Omega.{arith}
-use borrow.Author.Tests.{not-true, not-false}
 use borrow.Author.Rules.{rules}
-use Prim.Native.Nat.{ℕ, ◌<◌}
 use Rattle.schema.proofs.schemas.+put_field_put_fields_put_part_put_record_put_schema_put_union.Goals as goal
 
 pub put_field-returns-then-not-is_object : goal.put_field-returns-then-not-is_object
