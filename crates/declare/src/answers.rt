@@ -6,24 +6,32 @@ use crate::declaration::put_declaration;
 use crate::refusal::put_refusal;
 use crate::tally::Tally;
 use answer::Answer;
-use script::output::flush;
+use script::output::{Output, flush};
+use std::io;
 
 // Puts a text at the end of the set, and writes what comes of it behind the heading that the first `at` bytes of the buffer are.
-pub(crate) fn answer(mem: &mut [u8], text: &[u8], out: &mut [u8], at: usize, tally: Tally) -> Tally
+pub(crate) fn answer(
+    stdout: &mut Output,
+    mem: &mut [u8],
+    text: &[u8],
+    out: &mut [u8],
+    at: usize,
+    tally: Tally,
+) -> io::Result<Tally>
     requires { length mem.old ≡ layout_length }
 {
     let before = tally.counts;
     let a = set::put(mem, before.declarations, text);
     match a {
         Answer::Refused(r) => {
-            let end = put_refusal(out, at, text, r);
-            flush(out, end);
-            tally.refused()
+            let end = put_refusal(stdout, out, at, text, r);
+            flush(stdout, out, end)?;
+            Ok(tally.refused())
         }
         Answer::Done(after) => {
-            let end = put_declaration(out, at, mem, before, after);
-            flush(out, end);
-            tally.accepted(after)
+            let end = put_declaration(stdout, out, at, mem, before, after);
+            flush(stdout, out, end)?;
+            Ok(tally.accepted(after))
         }
     }
 }

@@ -1,7 +1,7 @@
 // Code points as Unicode writes them.
 ghost use Rattle.std.specs.Prelude.{◌<◌};
 
-use script::output::put;
+use script::output::{Output, put};
 
 fn digit(n: u32) -> u8
     requires { n < 16 }
@@ -25,7 +25,7 @@ fn unwritten(code: u32) -> usize
     0
 }
 
-pub(crate) fn put_code(out: &mut [u8], at: usize, code: u32) -> usize {
+pub(crate) fn put_code(stdout: &mut Output, out: &mut [u8], at: usize, code: u32) -> usize {
     let a = digit(code / 1048576 % 16);
     let b = digit(code / 65536 % 16);
     let c = digit(code / 4096 % 16);
@@ -34,5 +34,5 @@ pub(crate) fn put_code(out: &mut [u8], at: usize, code: u32) -> usize {
     let f = digit(code % 16);
     let digits = [a, b, c, d, e, f];
     let from = unwritten(code);
-    put(out, at, &digits[from..6])
+    put(stdout, out, at, &digits[from..6])
 }

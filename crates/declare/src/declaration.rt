@@ -7,78 +7,91 @@ use crate::table::put_table;
 use answer::Counts;
 use canonical::{Print, Written, canonical, fingerprint};
 use rabin::Rabin;
-use script::output::{put, put_decimal, put_hex, put_signed};
+use script::output::{Output, put, put_decimal, put_hex, put_signed};
 
-fn put_counts(out: &mut [u8], at: usize, place: usize, rows: usize) -> usize {
-    let a = put(out, at, b": place ");
-    let b = put_decimal(out, a, place as u64);
-    let c = put(out, b, b", rows ");
-    let d = put_decimal(out, c, rows as u64);
-    put(out, d, b"\n")
+fn put_counts(stdout: &mut Output, out: &mut [u8], at: usize, place: usize, rows: usize) -> usize {
+    let a = put(stdout, out, at, b": place ");
+    let b = put_decimal(stdout, out, a, place as u64);
+    let c = put(stdout, out, b, b", rows ");
+    let d = put_decimal(stdout, out, c, rows as u64);
+    put(stdout, out, d, b"\n")
 }
 
-fn put_text(out: &mut [u8], at: usize, text: &[u8]) -> usize {
-    let a = put(out, at, b"  canonical text, ");
-    let b = put_decimal(out, a, text.len() as u64);
-    let c = put(out, b, b" bytes\n  ");
-    let d = put(out, c, text);
-    put(out, d, b"\n")
+fn put_text(stdout: &mut Output, out: &mut [u8], at: usize, text: &[u8]) -> usize {
+    let a = put(stdout, out, at, b"  canonical text, ");
+    let b = put_decimal(stdout, out, a, text.len() as u64);
+    let c = put(stdout, out, b, b" bytes\n  ");
+    let d = put(stdout, out, c, text);
+    put(stdout, out, d, b"\n")
 }
 
-fn put_canonical(out: &mut [u8], at: usize, mem: &[u8], place: usize) -> usize {
+fn put_canonical(
+    stdout: &mut Output,
+    out: &mut [u8],
+    at: usize,
+    mem: &[u8],
+    place: usize,
+) -> usize {
     let mut text = [0u8; Written::LONGEST];
     let written = canonical(mem, place, &mut text, 0);
     match written {
         Written::Refused(_) => at,
         Written::Length(n) => {
             let all = &text[..];
-            put_text(out, at, &all[0..least(n, all.len())])
+            put_text(stdout, out, at, &all[0..least(n, all.len())])
         }
     }
 }
 
 // The eight digits pairs of a number, highest first.
-fn put_number(out: &mut [u8], at: usize, b: [u8; 8]) -> usize {
+fn put_number(stdout: &mut Output, out: &mut [u8], at: usize, b: [u8; 8]) -> usize {
     let high = [b[7], b[6], b[5], b[4], b[3], b[2], b[1], b[0]];
-    put_hex(out, at, &high)
+    put_hex(stdout, out, at, &high)
 }
 
 // Bytes, each behind a blank.
-fn put_octets(out: &mut [u8], at: usize, bytes: &[u8]) -> usize {
+fn put_octets(stdout: &mut Output, out: &mut [u8], at: usize, bytes: &[u8]) -> usize {
     let mut end = at;
     let mut i = 0;
     while i < bytes.len() {
         let one = [bytes[i]];
-        let next = put(out, end, b" ");
-        end = put_hex(out, next, &one);
+        let next = put(stdout, out, end, b" ");
+        end = put_hex(stdout, out, next, &one);
         i += 1;
     }
     end
 }
 
 // A fingerprint as a signed number, in hexadecimal digits, and as its bytes, lowest first.
-fn put_print(out: &mut [u8], at: usize, state: i64) -> usize {
+fn put_print(stdout: &mut Output, out: &mut [u8], at: usize, state: i64) -> usize {
     let r = Rabin { state: state };
     let bytes = r.bytes();
-    let a = put(out, at, b"  fingerprint  ");
-    let b = put_signed(out, a, state);
-    let c = put(out, b, b"\n  hex          ");
-    let d = put_number(out, c, bytes);
-    let e = put(out, d, b"\n  bytes       ");
-    let f = put_octets(out, e, &bytes);
-    put(out, f, b"\n")
+    let a = put(stdout, out, at, b"  fingerprint  ");
+    let b = put_signed(stdout, out, a, state);
+    let c = put(stdout, out, b, b"\n  hex          ");
+    let d = put_number(stdout, out, c, bytes);
+    let e = put(stdout, out, d, b"\n  bytes       ");
+    let f = put_octets(stdout, out, e, &bytes);
+    put(stdout, out, f, b"\n")
 }
 
-fn put_fingerprint(out: &mut [u8], at: usize, mem: &[u8], place: usize) -> usize {
+fn put_fingerprint(
+    stdout: &mut Output,
+    out: &mut [u8],
+    at: usize,
+    mem: &[u8],
+    place: usize,
+) -> usize {
     let print = fingerprint(mem, place);
     match print {
         Print::Refused(_) => at,
-        Print::Fingerprint(state) => put_print(out, at, state),
+        Print::Fingerprint(state) => put_print(stdout, out, at, state),
     }
 }
 
 // The last declaration of a set, which had the counts `before` without it and has the counts `after` now.
 pub(crate) fn put_declaration(
+    stdout: &mut Output,
     out: &mut [u8],
     at: usize,
     mem: &[u8],
@@ -90,9 +103,9 @@ pub(crate) fn put_declaration(
     let place = before.declarations;
     let start = before.rows;
     let end = least(after.rows, Counts::ROWS);
-    let a = put_counts(out, at, place, minus(end, start));
-    let b = put_table(out, a, mem, start, end);
-    let c = put_canonical(out, b, mem, place);
-    let d = put_fingerprint(out, c, mem, place);
-    put(out, d, b"\n")
+    let a = put_counts(stdout, out, at, place, minus(end, start));
+    let b = put_table(stdout, out, a, mem, start, end);
+    let c = put_canonical(stdout, out, b, mem, place);
+    let d = put_fingerprint(stdout, out, c, mem, place);
+    put(stdout, out, d, b"\n")
 }

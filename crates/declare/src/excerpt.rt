@@ -5,50 +5,51 @@ use crate::code::put_code;
 use crate::columns::{least, minus, most, put_blanks, put_shown};
 use crate::lines::line_end;
 use crate::spot::{Spot, spot_of};
-use script::output::{put, put_decimal};
+use script::output::{Output, put, put_decimal};
 
-fn put_spot(out: &mut [u8], at: usize, spot: Spot) -> usize {
-    let a = put(out, at, b"  line ");
-    let b = put_decimal(out, a, spot.line as u64);
-    let c = put(out, b, b", column ");
-    let d = put_decimal(out, c, spot.column as u64);
-    put(out, d, b"\n")
+fn put_spot(stdout: &mut Output, out: &mut [u8], at: usize, spot: Spot) -> usize {
+    let a = put(stdout, out, at, b"  line ");
+    let b = put_decimal(stdout, out, a, spot.line as u64);
+    let c = put(stdout, out, b, b", column ");
+    let d = put_decimal(stdout, out, c, spot.column as u64);
+    put(stdout, out, d, b"\n")
 }
 
 // Four columns: dots where something is left out.
-fn put_margin(out: &mut [u8], at: usize, cut: bool) -> usize {
+fn put_margin(stdout: &mut Output, out: &mut [u8], at: usize, cut: bool) -> usize {
     if cut {
-        return put(out, at, b"... ");
+        return put(stdout, out, at, b"... ");
     }
-    put(out, at, b"    ")
+    put(stdout, out, at, b"    ")
 }
 
-fn put_rest(out: &mut [u8], at: usize, cut: bool) -> usize {
+fn put_rest(stdout: &mut Output, out: &mut [u8], at: usize, cut: bool) -> usize {
     if cut {
-        return put(out, at, b" ...\n");
+        return put(stdout, out, at, b" ...\n");
     }
-    put(out, at, b"\n")
+    put(stdout, out, at, b"\n")
 }
 
 // The code point of a character, where it is not ASCII.
-fn put_letter(out: &mut [u8], at: usize, code: u32) -> usize {
+fn put_letter(stdout: &mut Output, out: &mut [u8], at: usize, code: u32) -> usize {
     if code < 128 {
         return at;
     }
-    let a = put(out, at, b" U+");
-    put_code(out, a, code)
+    let a = put(stdout, out, at, b" U+");
+    put_code(stdout, out, a, code)
 }
 
 // A caret behind n blanks, and which character stands above it.
-fn put_caret(out: &mut [u8], at: usize, n: usize, code: u32) -> usize {
-    let a = put_blanks(out, at, n);
-    let b = put(out, a, b"^");
-    let c = put_letter(out, b, code);
-    put(out, c, b"\n")
+fn put_caret(stdout: &mut Output, out: &mut [u8], at: usize, n: usize, code: u32) -> usize {
+    let a = put_blanks(stdout, out, at, n);
+    let b = put(stdout, out, a, b"^");
+    let c = put_letter(stdout, out, b, code);
+    put(stdout, out, c, b"\n")
 }
 
 // Of the line from `start` to `end` at most 100 bytes, 60 of them before the position.
 fn put_line(
+    stdout: &mut Output,
     out: &mut [u8],
     at: usize,
     text: &[u8],
@@ -61,14 +62,15 @@ fn put_line(
 {
     let from = most(start, minus(p, 60));
     let to = least(end, p + 40);
-    let a = put_margin(out, at, start < from);
-    let b = put_shown(out, a, &text[from..to]);
-    let c = put_rest(out, b, to < end);
-    put_caret(out, c, 4 + (p - from), code)
+    let a = put_margin(stdout, out, at, start < from);
+    let b = put_shown(stdout, out, a, &text[from..to]);
+    let c = put_rest(stdout, out, b, to < end);
+    put_caret(stdout, out, c, 4 + (p - from), code)
 }
 
 // Line and column of a position, and the line with a caret; the character there, where it is to be told, by its code point.
 pub(crate) fn put_excerpt(
+    stdout: &mut Output,
     out: &mut [u8],
     at: usize,
     text: &[u8],
@@ -79,6 +81,6 @@ pub(crate) fn put_excerpt(
     let spot = spot_of(text, p);
     let start = minus(p + 1, spot.column);
     let end = line_end(text, p);
-    let a = put_spot(out, at, spot);
-    put_line(out, a, text, start, end, p, code)
+    let a = put_spot(stdout, out, at, spot);
+    put_line(stdout, out, a, text, start, end, p, code)
 }

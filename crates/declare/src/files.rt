@@ -7,63 +7,101 @@ use crate::columns::put_shown;
 use crate::complaint::complain;
 use crate::input::read_all;
 use crate::tally::Tally;
+use script::output::Output;
+use std::env::Env;
+use std::fs::File;
+use std::io;
+use std::io::{Error, ErrorKind, Stderr};
 
 // The text of a file that is open. Of one that does not fit the buffer the first bytes are read: they are more than a text may have.
 fn answer_open(
-    fd: i32,
+    stdout: &mut Output,
+    stderr: Stderr,
+    mut file: File,
     path: &[u8],
     mem: &mut [u8],
     text: &mut [u8],
     out: &mut [u8],
     tally: Tally,
-) -> Tally
+) -> io::Result<Tally>
     requires { length mem.old ≡ layout_length }
 {
-    let filled = read_all(fd, text);
-    if filled.failed {
-        complain(path, b" cannot be read");
-        return tally.unread();
+    let filled = read_all(&mut file, text);
+    if let Some(why) = filled.failure {
+        complain(stdout, stderr, path, b" cannot be read", why)?;
+        return Ok(tally.unread());
     }
     let n = filled.to;
-    let at = put_shown(out, 0, path);
-    answer(mem, &text[0..n], out, at, tally.tried())
+    let at = put_shown(stdout, out, 0, path);
+    answer(stdout, mem, &text[0..n], out, at, tally.tried())
 }
 
-fn answer_file(path: &[u8], mem: &mut [u8], text: &mut [u8], out: &mut [u8], tally: Tally) -> Tally
+// A file, whose path is text.
+fn open(rt: &HostRuntime, path: &[u8]) -> io::Result<File> {
+    match str::from_utf8(path) {
+        Ok(path) => File::open(rt, path),
+        Err(_) => Err(Error::new(ErrorKind::InvalidFilename, "the path is not UTF-8")),
+    }
+}
+
+fn answer_file(
+    rt: &HostRuntime,
+    stdout: &mut Output,
+    path: &[u8],
+    mem: &mut [u8],
+    text: &mut [u8],
+    out: &mut [u8],
+    tally: Tally,
+) -> io::Result<Tally>
     requires { length mem.old ≡ layout_length }
 {
-    let fd = os::open_read(path);
-    if fd < 0 {
-        complain(path, b" cannot be opened");
-        return tally.unread();
+    match open(rt, path) {
+        Ok(file) => answer_open(stdout, rt.stderr(), file, path, mem, text, out, tally),
+        Err(why) => {
+            complain(stdout, rt.stderr(), path, b" cannot be opened", why)?;
+            Ok(tally.unread())
+        }
     }
-    let after = answer_open(fd, path, mem, text, out, tally);
-    libc::close(fd);
-    after
 }
 
 // The file that argument i names.
-fn answer_argument(i: usize, mem: &mut [u8], text: &mut [u8], out: &mut [u8], tally: Tally) -> Tally
+fn answer_argument(
+    rt: &HostRuntime,
+    stdout: &mut Output,
+    i: usize,
+    mem: &mut [u8],
+    text: &mut [u8],
+    out: &mut [u8],
+    tally: Tally,
+) -> io::Result<Tally>
     requires { length mem.old ≡ layout_length }
 {
-    let mut path = io::buffer();
-    let n = os::arg(i, &mut path);
-    if os::errno() != 0 {
-        os::fail(b"an argument cannot be read");
-        return tally.unread();
+    let mut path = [0u8; 4096];
+    match rt.arg(i, &mut path) {
+        Ok(n) => answer_file(rt, stdout, &path[..n], mem, text, out, tally),
+        Err(_) => {
+            eprintln!(rt; "an argument cannot be read: it is too long")?;
+            Ok(tally.unread())
+        }
     }
-    answer_file(&path[..n], mem, text, out, tally)
 }
 
 // The files that the arguments name, of which there are n with the program's own name.
-pub(crate) fn answer_files(n: usize, mem: &mut [u8], text: &mut [u8], out: &mut [u8]) -> Tally
+pub(crate) fn answer_files(
+    rt: &HostRuntime,
+    stdout: &mut Output,
+    n: usize,
+    mem: &mut [u8],
+    text: &mut [u8],
+    out: &mut [u8],
+) -> io::Result<Tally>
     requires { length mem.old ≡ layout_length }
 {
     let mut tally = Tally::none();
     let mut i = 1;
     while i < n {
-        tally = answer_argument(i, mem, text, out, tally);
+        tally = answer_argument(rt, stdout, i, mem, text, out, tally)?;
         i += 1;
     }
-    tally
+    Ok(tally)
 }

@@ -26,27 +26,47 @@ ghost use Rattle.row.specs.Layout.{layout_length};
 
 use files::answer_files;
 use row::Layout;
-use script::output::flush;
+use script::output::{Output, flush};
 use sequence::answer_sequence;
+use std::env::{Env, FillError};
+use std::io;
 use tally::{Tally, put_tally};
 
-// Every text in turn.
-fn answer_all(mem: &mut [u8], text: &mut [u8], out: &mut [u8]) -> Tally
-    requires { length mem.old ≡ layout_length }
-{
-    let n = os::arg_count();
-    if n < 2 {
-        return answer_sequence(mem, text, out);
+// How many arguments there are, with the program's own name.
+fn arg_count(rt: &impl Env) -> usize {
+    let mut start = [0u8; 1];
+    for i in 0..usize::MAX {
+        if let Err(FillError::NotPresent) = rt.arg(i, &mut start) {
+            return i;
+        }
     }
-    answer_files(n, mem, text, out)
+    usize::MAX
 }
 
-fn main() {
+// Every text in turn.
+fn answer_all(
+    rt: &HostRuntime,
+    stdout: &mut Output,
+    mem: &mut [u8],
+    text: &mut [u8],
+    out: &mut [u8],
+) -> io::Result<Tally>
+    requires { length mem.old ≡ layout_length }
+{
+    let n = arg_count(rt);
+    if n < 2 {
+        return answer_sequence(rt.stdin(), stdout, rt.stderr(), mem, text, out);
+    }
+    answer_files(rt, stdout, n, mem, text, out)
+}
+
+fn main(rt: HostRuntime) -> io::Result<()> {
     let mut mem = [0u8; Layout::LENGTH];
-    let mut text = io::large_buffer();
-    let mut out = io::large_buffer();
+    let mut text = [0u8; 65536];
+    let mut out = [0u8; 65536];
+    let mut stdout = Output::new(rt.stdout());
     set::open(&mut mem);
-    let tally = answer_all(&mut mem, &mut text, &mut out);
-    let end = put_tally(&mut out, 0, tally);
-    flush(&out, end);
+    let tally = answer_all(&rt, &mut stdout, &mut mem, &mut text, &mut out)?;
+    let end = put_tally(&mut stdout, &mut out, 0, tally);
+    flush(&mut stdout, &out, end)
 }

@@ -3,7 +3,7 @@ ghost use Rattle.std.specs.Prelude.{◌<◌, ◌≤◌, length};
 ghost use Rattle.declare.specs.Pieces.{Within};
 
 use crate::input::read_more;
-use libc::STDIN_FILENO;
+use std::io::{Error, Stdin};
 
 // The buffer's bytes from `from` to `to`. Those from `next` to `end` were read and are left.
 // Behind the last piece the input ends, or it failed. A piece that does not fit the buffer with its mark is cut, and its rest is skipped.
@@ -12,7 +12,7 @@ pub(crate) struct Piece {
     pub(crate) from: usize,
     pub(crate) to: usize,
     pub(crate) last: bool,
-    pub(crate) failed: bool,
+    pub(crate) failure: Option<Error>,
     pub(crate) cut: bool,
     pub(crate) next: usize,
     pub(crate) end: usize,
@@ -35,7 +35,7 @@ fn cut_piece(n: usize, cut: bool) -> Piece
         from: 0,
         to: n,
         last: false,
-        failed: false,
+        failure: None,
         cut: cut,
         next: 0,
         end: 0,
@@ -43,14 +43,14 @@ fn cut_piece(n: usize, cut: bool) -> Piece
 }
 
 // The buffer's first n bytes, and no more come.
-fn last_piece(n: usize, failed: bool) -> Piece
+fn last_piece(n: usize, failure: Option<Error>) -> Piece
     ensures { Within n result }
 {
     Piece {
         from: 0,
         to: n,
         last: true,
-        failed: failed,
+        failure: failure,
         cut: false,
         next: 0,
         end: 0,
@@ -66,7 +66,7 @@ fn whole_piece(from: usize, to: usize, end: usize) -> Piece
         from: from,
         to: to,
         last: false,
-        failed: false,
+        failure: None,
         cut: false,
         next: to + 1,
         end: end,
@@ -104,16 +104,16 @@ fn move_down(buf: &mut [u8], from: usize, end: usize) -> usize
 }
 
 // Reads until the piece ends of which the buffer's first n bytes are there.
-fn read_piece(buf: &mut [u8], n: usize) -> Piece
+fn read_piece(mut stdin: Stdin, buf: &mut [u8], n: usize) -> Piece
     requires { n ≤ length buf.old }
     ensures { Within (length buf.new) result }
 {
     let mut to = n;
     while to < buf.len() {
-        let more = read_more(STDIN_FILENO, buf, to);
+        let more = read_more(&mut stdin, buf, to);
         let end = more.to;
         if end <= to {
-            return last_piece(to, more.failed);
+            return last_piece(to, more.failure);
         }
         let mark = mark_at(buf, to, end);
         if mark < end {
@@ -125,12 +125,12 @@ fn read_piece(buf: &mut [u8], n: usize) -> Piece
 }
 
 // Reads until the piece that was cut ends.
-fn skip_piece(buf: &mut [u8]) -> Piece
+fn skip_piece(stdin: Stdin, buf: &mut [u8]) -> Piece
     ensures { Within (length buf.new) result }
 {
     let mut turns = u64::MAX;
     while 0 < turns {
-        let rest = read_piece(buf, 0);
+        let rest = read_piece(stdin, buf, 0);
         if !rest.cut {
             return rest;
         }
@@ -140,11 +140,11 @@ fn skip_piece(buf: &mut [u8]) -> Piece
 }
 
 // The piece, or where it was cut its rest. What no piece of this buffer has left counts as nothing.
-fn settled(buf: &mut [u8], piece: Piece) -> Piece
+fn settled(stdin: Stdin, buf: &mut [u8], piece: Piece) -> Piece
     ensures { (result.next ≤ result.end) × (result.end ≤ length buf.new) }
 {
     if piece.cut {
-        return skip_piece(buf);
+        return skip_piece(stdin, buf);
     }
     if piece.end < piece.next {
         return Piece::none();
@@ -156,10 +156,10 @@ fn settled(buf: &mut [u8], piece: Piece) -> Piece
 }
 
 // The piece after a piece.
-pub(crate) fn next_piece(buf: &mut [u8], before: Piece) -> Piece
+pub(crate) fn next_piece(stdin: Stdin, buf: &mut [u8], before: Piece) -> Piece
     ensures { Within (length buf.new) result }
 {
-    let piece = settled(buf, before);
+    let piece = settled(stdin, buf, before);
     let from = piece.next;
     let end = piece.end;
     let to = mark_at(buf, from, end);
@@ -167,5 +167,5 @@ pub(crate) fn next_piece(buf: &mut [u8], before: Piece) -> Piece
         return whole_piece(from, to, end);
     }
     let n = move_down(buf, from, end);
-    read_piece(buf, n)
+    read_piece(stdin, buf, n)
 }

@@ -3,7 +3,7 @@ use crate::excerpt::put_excerpt;
 use crate::sentences::put_sentence;
 use answer::{Refusal, Why};
 use breach::code_at;
-use script::output::{put, put_decimal};
+use script::output::{Output, put, put_decimal};
 
 // A refusal that the set gives has no byte of the text: its position is 0.
 fn has_byte(why: Why) -> bool {
@@ -17,15 +17,15 @@ fn has_byte(why: Why) -> bool {
     }
 }
 
-fn put_numbers(out: &mut [u8], at: usize, r: Refusal) -> usize {
+fn put_numbers(stdout: &mut Output, out: &mut [u8], at: usize, r: Refusal) -> usize {
     let why = r.why;
-    let a = put(out, at, b": refusal ");
-    let b = put_decimal(out, a, why.number() as u64);
-    let c = put(out, b, b", place ");
-    let d = put_decimal(out, c, r.place as u64);
-    let e = put(out, d, b", position ");
-    let f = put_decimal(out, e, r.at as u64);
-    put(out, f, b"\n")
+    let a = put(stdout, out, at, b": refusal ");
+    let b = put_decimal(stdout, out, a, why.number() as u64);
+    let c = put(stdout, out, b, b", place ");
+    let d = put_decimal(stdout, out, c, r.place as u64);
+    let e = put(stdout, out, d, b", position ");
+    let f = put_decimal(stdout, out, e, r.at as u64);
+    put(stdout, out, f, b"\n")
 }
 
 // The code point of the character that a 7 stands at, or of the closing quote; 0 for any other number.
@@ -37,24 +37,30 @@ fn letter(text: &[u8], r: Refusal) -> u32 {
     }
 }
 
-fn put_where(out: &mut [u8], at: usize, text: &[u8], r: Refusal) -> usize {
+fn put_where(stdout: &mut Output, out: &mut [u8], at: usize, text: &[u8], r: Refusal) -> usize {
     let why = r.why;
     if !has_byte(why) {
         return at;
     }
     if text.len() == 0 {
-        return put(out, at, b"  The text is empty.\n");
+        return put(stdout, out, at, b"  The text is empty.\n");
     }
     let code = letter(text, r);
-    put_excerpt(out, at, text, r.at, code)
+    put_excerpt(stdout, out, at, text, r.at, code)
 }
 
-pub(crate) fn put_refusal(out: &mut [u8], at: usize, text: &[u8], r: Refusal) -> usize {
+pub(crate) fn put_refusal(
+    stdout: &mut Output,
+    out: &mut [u8],
+    at: usize,
+    text: &[u8],
+    r: Refusal,
+) -> usize {
     let why = r.why;
-    let a = put_numbers(out, at, r);
-    let b = put(out, a, b"  ");
-    let c = put_sentence(out, b, why);
-    let d = put(out, c, b"\n");
-    let e = put_where(out, d, text, r);
-    put(out, e, b"\n")
+    let a = put_numbers(stdout, out, at, r);
+    let b = put(stdout, out, a, b"  ");
+    let c = put_sentence(stdout, out, b, why);
+    let d = put(stdout, out, c, b"\n");
+    let e = put_where(stdout, out, d, text, r);
+    put(stdout, out, e, b"\n")
 }

@@ -1,10 +1,10 @@
 // What each refusal means, in a sentence.
 use crate::lines::line;
 use answer::Why;
-use script::output::put;
+use script::output::{Output, put};
 
 // Of the numbers from 40 to 48 and of 57: the sentence of 40 is line 0, that of 57 line 9.
-fn put_later(out: &mut [u8], at: usize, n: usize) -> usize {
+fn put_later(stdout: &mut Output, out: &mut [u8], at: usize, n: usize) -> usize {
     let all = b"This is no summary: it does not begin with the bytes C3 01.\n\
         No declaration of the set has this fingerprint.\n\
         The summary ends too soon.\n\
@@ -15,11 +15,11 @@ fn put_later(out: &mut [u8], at: usize, n: usize) -> usize {
         The default does not fit the type of its field.\n\
         The default is longer than 255 bytes.\n\
         The block has another size than it says.";
-    put(out, at, line(all, n))
+    put(stdout, out, at, line(all, n))
 }
 
 // The sentence of number n is line n.
-pub(crate) fn put_sentence(out: &mut [u8], at: usize, why: Why) -> usize {
+pub(crate) fn put_sentence(stdout: &mut Output, out: &mut [u8], at: usize, why: Why) -> usize {
     let all = b"\n\
         The text is longer than 32,768 bytes.\n\
         Not JSON: no JSON text goes on like this.\n\
@@ -52,10 +52,10 @@ pub(crate) fn put_sentence(out: &mut [u8], at: usize, why: Why) -> usize {
         The buffer has no room for the text.";
     let n = why.number() as usize;
     if 56 < n {
-        return put_later(out, at, 9);
+        return put_later(stdout, out, at, 9);
     }
     if 39 < n {
-        return put_later(out, at, n - 40);
+        return put_later(stdout, out, at, n - 40);
     }
-    put(out, at, line(all, n))
+    put(stdout, out, at, line(all, n))
 }

@@ -8,7 +8,9 @@ use crate::answers::answer;
 use crate::complaint::complain;
 use crate::pieces::{Piece, next_piece};
 use crate::tally::Tally;
-use script::output::{put, put_decimal};
+use script::output::{Output, put, put_decimal};
+use std::io;
+use std::io::{Error, Stderr, Stdin};
 
 fn is_space(b: u8) -> bool
     ensures { result ≡ is_space b }
@@ -52,39 +54,53 @@ fn is_text(s: &[u8], first: bool, last: bool) -> bool
     !all_space(s)
 }
 
-fn answer_text(mem: &mut [u8], text: &[u8], out: &mut [u8], tally: Tally) -> Tally
+fn answer_text(
+    stdout: &mut Output,
+    mem: &mut [u8],
+    text: &[u8],
+    out: &mut [u8],
+    tally: Tally,
+) -> io::Result<Tally>
     requires { length mem.old ≡ layout_length }
 {
     let more = tally.tried();
-    let a = put(out, 0, b"text ");
-    let b = put_decimal(out, a, more.texts as u64);
-    answer(mem, text, out, b, more)
+    let a = put(stdout, out, 0, b"text ");
+    let b = put_decimal(stdout, out, a, more.texts as u64);
+    answer(stdout, mem, text, out, b, more)
 }
 
 // A piece, where it is a text.
 fn answer_piece(
+    stdout: &mut Output,
     mem: &mut [u8],
     piece: &[u8],
     first: bool,
     last: bool,
     out: &mut [u8],
     tally: Tally,
-) -> Tally
+) -> io::Result<Tally>
     requires { length mem.old ≡ layout_length }
 {
     if is_text(piece, first, last) {
-        return answer_text(mem, piece, out, tally);
+        return answer_text(stdout, mem, piece, out, tally);
     }
-    tally
+    Ok(tally)
 }
 
-fn unreadable(tally: Tally) -> Tally {
-    complain(b"standard input", b" cannot be read");
-    tally.unread()
+fn unreadable(stdout: &mut Output, stderr: Stderr, why: Error, tally: Tally) -> io::Result<Tally> {
+    complain(stdout, stderr, b"standard input", b" cannot be read", why)?;
+    Ok(tally.unread())
 }
 
 // Each piece in turn. Nothing of a piece is kept but what the set keeps.
-pub(crate) fn answer_sequence(mem: &mut [u8], buf: &mut [u8], out: &mut [u8]) -> Tally
+pub(crate) fn answer_sequence(
+    stdin: Stdin,
+    stdout: &mut Output,
+    stderr: Stderr,
+    mem: &mut [u8],
+    buf: &mut [u8],
+    out: &mut [u8],
+) -> io::Result<Tally>
     requires { length mem.old ≡ layout_length }
 {
     let mut tally = Tally::none();
@@ -92,18 +108,18 @@ pub(crate) fn answer_sequence(mem: &mut [u8], buf: &mut [u8], out: &mut [u8]) ->
     let mut first = true;
     let mut turns = u64::MAX;
     while 0 < turns {
-        piece = next_piece(buf, piece);
+        piece = next_piece(stdin, buf, piece);
         let from = piece.from;
         let to = piece.to;
-        if piece.failed {
-            return unreadable(tally);
+        if let Some(why) = piece.failure {
+            return unreadable(stdout, stderr, why, tally);
         }
-        tally = answer_piece(mem, &buf[from..to], first, piece.last, out, tally);
+        tally = answer_piece(stdout, mem, &buf[from..to], first, piece.last, out, tally)?;
         if piece.last {
-            return tally;
+            return Ok(tally);
         }
         first = false;
         turns -= 1;
     }
-    tally
+    Ok(tally)
 }

@@ -1,6 +1,6 @@
 // What became of the texts.
 use answer::Counts;
-use script::output::{put, put_decimal};
+use script::output::{Output, put, put_decimal};
 
 // The set's counts, how many texts were tried, how many of them were refused, and how many files were not read.
 #[derive(Clone, Copy)]
@@ -71,28 +71,28 @@ impl Tally {
 }
 
 // The set's counts.
-fn put_counts(out: &mut [u8], at: usize, counts: Counts) -> usize {
-    let a = put(out, at, b"set: declarations ");
-    let b = put_decimal(out, a, counts.declarations as u64);
-    let c = put(out, b, b", rows ");
-    let d = put_decimal(out, c, counts.rows as u64);
-    let e = put(out, d, b", string bytes ");
-    put_decimal(out, e, counts.string_bytes as u64)
+fn put_counts(stdout: &mut Output, out: &mut [u8], at: usize, counts: Counts) -> usize {
+    let a = put(stdout, out, at, b"set: declarations ");
+    let b = put_decimal(stdout, out, a, counts.declarations as u64);
+    let c = put(stdout, out, b, b", rows ");
+    let d = put_decimal(stdout, out, c, counts.rows as u64);
+    let e = put(stdout, out, d, b", string bytes ");
+    put_decimal(stdout, out, e, counts.string_bytes as u64)
 }
 
-fn put_unread(out: &mut [u8], at: usize, n: usize) -> usize {
+fn put_unread(stdout: &mut Output, out: &mut [u8], at: usize, n: usize) -> usize {
     if n == 0 {
         return at;
     }
-    let a = put(out, at, b", not read ");
-    put_decimal(out, a, n as u64)
+    let a = put(stdout, out, at, b", not read ");
+    put_decimal(stdout, out, a, n as u64)
 }
 
-pub(crate) fn put_tally(out: &mut [u8], at: usize, tally: Tally) -> usize {
+pub(crate) fn put_tally(stdout: &mut Output, out: &mut [u8], at: usize, tally: Tally) -> usize {
     let counts = tally.counts;
-    let a = put_counts(out, at, counts);
-    let b = put(out, a, b"; refused ");
-    let c = put_decimal(out, b, tally.refused as u64);
-    let d = put_unread(out, c, tally.unread);
-    put(out, d, b"\n")
+    let a = put_counts(stdout, out, at, counts);
+    let b = put(stdout, out, a, b"; refused ");
+    let c = put_decimal(stdout, out, b, tally.refused as u64);
+    let d = put_unread(stdout, out, c, tally.unread);
+    put(stdout, out, d, b"\n")
 }
