@@ -35,10 +35,10 @@ pub bounds-offsets-given : goal.bounds-offsets-given
 bounds-offsets-given c = let g = (gave_went c.in-End.is c.walk.ensures) in omega (arith, g.few)
 
 pub copy-requires : goal.copy-requires
-copy-requires c = (omega (arith, c.if-list-n.false), read_room (gave_went c.in-End.is c.walk.ensures) (c.walk.auto.1.1.1.1.1.0 ∙ length-replicate {A = ℕ} 4097 0))
+copy-requires c = (omega (arith, c.if-list-n.false), read_room (gave_went c.in-End.is c.walk.ensures) (c.walk.auto.list ∙ length-replicate {A = ℕ} 4097 0))
 
 pub returns-in-Stopped : goal.returns-in-Stopped
 returns-in-Stopped c = read_stopped _ _ _ _ _ _ (datum_is _ c.requires.0 _ c.declarations.ensures _ c.rows_before-rows.ensures _ c.requires.1 _ c.rows_before-start.ensures _ _) (gave_stopped c.in-Stopped.is c.walk.ensures) c.placed.ensures
 
 pub returns-else-list-n : goal.returns-else-list-n
-returns-else-list-n c = read_given _ _ _ _ _ _ (datum_is _ c.requires.0 _ c.declarations.ensures _ c.rows_before-rows.ensures _ c.requires.1 _ c.rows_before-start.ensures _ _) (gave_went c.in-End.is c.walk.ensures) (omega (arith, c.if-to-bytes.false)) (omega (arith, c.if-list-n.false)) (c.walk.auto.1.1.1.1.1.0 ∙ length-replicate {A = ℕ} 4097 0) c.copy.ensures
+returns-else-list-n c = read_given _ _ _ _ _ _ (datum_is _ c.requires.0 _ c.declarations.ensures _ c.rows_before-rows.ensures _ c.requires.1 _ c.rows_before-start.ensures _ _) (gave_went c.in-End.is c.walk.ensures) (omega (arith, c.if-to-bytes.false)) (omega (arith, c.if-list-n.false)) (c.walk.auto.list ∙ length-replicate {A = ℕ} 4097 0) c.copy.ensures
