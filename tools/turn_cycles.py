@@ -3,9 +3,10 @@
 
 usage: (in crates/: rt names FOLDER)  python3 tools/turn_cycles.py FOLDER CRATE..
 
-FOLDER/CRATE/names.json is as for tools/turn_proofs.py. In the old proof each answer is `F_x : (t : ℕ) → F-lts.Need-G ..`, and a measure `μ_F κs a` reads the tuple
-of the arguments: a.0, a.1.0, a.1.1.0. Today a goal is `goal.F-G`, its answer takes t and c, and a measure reads l.x, or l.x.now of a reference. What was left to
-`search rules` gets no answer. A line that begins `left:` names what is to be done by hand.
+FOLDER/CRATE/names.json is as for tools/turn_proofs.py. In the old proof an answer is `F_x : (t : ℕ) → F-lts.Need-G ..`, and a measure `μ_F κs a` reads the tuple of the
+arguments: a.0, a.1.0, a.1.1.0. Today a goal is `goal.F-G`, or `goal.G` where F calls itself alone; its answer takes t and c, and a measure reads l.x, or l.x.now of a
+reference. Of the old c.requires, .0 is c.decreases and .1 is c.requires. What was left to `search rules` gets no answer.
+A line that begins `left:` names what is to be done by hand, as is an answer by the old `⊎_elim .. c.if1.branch`.
 """
 
 import json
@@ -29,9 +30,15 @@ def parameters(crate, path, name):
             continue
         m = re.search(rf"\bfn {re.escape(name)}\s*(?:<[^(]*>)?\(([^)]*)\)", open(file, encoding="utf-8").read())
         if m:
-            found = re.findall(r"(?:mut\s+)?(\w+)\s*:\s*(&?)", m[1])
+            found = re.findall(r"(\w+)\s*:(?!:)\s*(&?)", m[1])
             return [(n, bool(r)) for n, r in found]
     return None
+
+
+def parameter(entry, step, k):
+    """The parameter at k of what the step calls."""
+    callee = next(p[3] for p in entry["places"] if p[2][1] == step and p[3])
+    return entry["params"][callee][k]
 
 
 def joined(uses):
@@ -106,7 +113,7 @@ def turn(folder, entries, crate, place, said):
             to = {p: f"l.initial.{v}" if t else f"l.{v}" for p, v, t in zip(pars, names, changed)}
             to |= dict(zip(pars[len(names):], (f"l.{v}" for v in moved)))
             body = re.sub(rf"(?<![^\s(){{}};,@]){NAMED}", lambda t: to.get(t[0], to.get(t[0].strip("«»"), t[0])), body)
-            given.append((f"{m[1]}-{of}-{new}", opened, body))
+            given.append((f"{m[1]}-{entry['stem']}{new}", opened, body))
             continue
         asked = kind[len("Need-"):]
         byname = {plain(a): (b, k) for k, (a, b) in enumerate(entry["needs"])}
@@ -125,16 +132,18 @@ def turn(folder, entries, crate, place, said):
         more = []
 
         def moved_path(t):
-            parts = re.findall(NAMED, t[1])
+            # a local called `typed` was taken for Rattle's older field of that name
+            parts = ["typed" if p == "type-inv" and any(q[2][0] == "typed" for q in entry["places"]) else p for p in re.findall(NAMED, t[1])]
             to = fn.path(at, parts, more)
-            if re.match(r"c\.requires\.0(?!\d)", to):
-                more.append("uses what the measure is, c.requires.0")
-            return re.sub(r"^c\.requires\.1(?!\d)", "c.requires", to)
+            to = re.sub(r"^c\.requires\.([01])(?!\d)", lambda m: ("c.decreases", "c.requires")[int(m[1])], to)
+            return re.sub(rf"^c\.({NAMED})\.auto((?:\.1)*)\.0", lambda m: f"c.{m[1]}.auto.{parameter(entry, m[1], m[2].count('.1'))}", to)
         body = PATH.sub(moved_path, body)
+        # the outcome of `!b` says what b is
+        body = re.sub(rf"not-(true|false) \S+ (c(?:\.{NAMED})+?)\.\1-raw(?![\w-])", r"\2.\1", body)
         said += [f"{of}-{new}: {w}" for w in more]
         if "κs" in body:
             said.append(f"{of}-{new}: uses κs")
-        answers.append((f"{of}-{new}", opened, "t c", body))
+        answers.append((entry["stem"] + new, opened, "t c", body))
     base = f"Rattle.{crate}.proofs.{place}"
 
     def write(name, module, decl):

@@ -17,10 +17,10 @@ pub loop-i-init : goal.loop-i-init
 loop-i-init c = (search rules, refl, found_zeros _ _ 1024, ap (misfit_in _) (rows_last _ c.args.start c.args.n))
 
 pub returns-then-not-default_fits : goal.returns-then-not-default_fits
-returns-then-not-default_fits c = misfit_here _ _ _ _ c.loop-i.invariant.3 c.loop-i-test.true c.default_fits.ensures.0 (not-true _ c.if-not-default_fits.true-raw) c.size_at.ensures
+returns-then-not-default_fits c = misfit_here _ _ _ _ c.loop-i.invariant.3 c.loop-i-test.true c.default_fits.ensures.0 c.if-not-default_fits.true c.size_at.ensures
 
 pub loop-i-preserved : goal.loop-i-preserved
-loop-i-preserved c = (search rules, search rules, c.default_fits.ensures.1, misfit_on _ _ _ _ c.loop-i.invariant.3 c.loop-i-test.true c.default_fits.ensures.0 (not-false _ c.if-not-default_fits.false-raw))
+loop-i-preserved c = (search rules, search rules, c.default_fits.ensures.1, misfit_on _ _ _ _ c.loop-i.invariant.3 c.loop-i-test.true c.default_fits.ensures.0 c.if-not-default_fits.false)
 
 pub returns : goal.returns
 returns c = misfit_end _ _ _ _ c.loop-i.invariant.3 c.loop-i-test.false

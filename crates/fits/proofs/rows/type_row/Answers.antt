@@ -13,10 +13,10 @@ pub loop-i-init : goal.loop-i-init
 loop-i-init c = refl
 
 pub returns-then-not-is_kind : goal.returns-then-not-is_kind
-returns-then-not-is_kind c = type_here _ _ _ c.loop-i.invariant c.loop-i-test.true (c.is_kind.ensures _ c.kind_number.ensures) (not-true _ c.if-not-is_kind.true-raw)
+returns-then-not-is_kind c = type_here _ _ _ c.loop-i.invariant c.loop-i-test.true (c.is_kind.ensures _ c.kind_number.ensures) c.if-not-is_kind.true
 
 pub loop-i-preserved : goal.loop-i-preserved
-loop-i-preserved c = type_on _ _ _ c.loop-i.invariant c.loop-i-test.true (c.is_kind.ensures _ c.kind_number.ensures) (not-false _ c.if-not-is_kind.false-raw)
+loop-i-preserved c = type_on _ _ _ c.loop-i.invariant c.loop-i-test.true (c.is_kind.ensures _ c.kind_number.ensures) c.if-not-is_kind.false
 
 pub returns : goal.returns
 returns c = type_end _ _ _ c.loop-i.invariant c.loop-i-test.false

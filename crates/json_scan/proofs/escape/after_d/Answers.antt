@@ -2,7 +2,6 @@
 use mathlib.Core.Path.{refl, sym, ap, ◌∙◌}
 use Prim.Native.Nat.{◌+◌}
 use native.Mathlib.Omega.{arith}
-use borrow.Author.Tests.{not-true, not-false}
 use Rattle.ground.proofs.Laws.{byte_at_lem}
 use Rattle.json_scan.specs.Json.{inside, is_high, str, plain, h2d, h3, g3, g5}
 use Rattle.json_scan.proofs.Readers.{lt_of_class, reads_is, reads_then, reads_bad}
@@ -18,15 +17,15 @@ pub returns-then-inside : goal.returns-then-inside
 returns-then-inside c = λ w. below_8 c.args.text.now c.args.at w (ap (inside 48 55) (sym ((c.byte_at-b.ensures ∙ byte_at_lem _ _))) ∙ sym c.inside.ensures ∙ c.if-inside.true) _ (reads_is c.args.text.now (c.args.at + 1) (str w h3) (str w plain) _ _ c.two_hex.ensures (last_two c.args.text.now (c.args.at + 1) w))
 
 pub returns-then-not-is_high : goal.returns-then-not-is_high
-returns-then-not-is_high c = λ w. reads_is c.args.text.now c.args.at (str w h2d) (str w plain) _ _ c.bad.ensures (no_high c.args.text.now c.args.at w (ap (inside 48 55) (sym ((c.byte_at-b.ensures ∙ byte_at_lem _ _))) ∙ sym c.inside.ensures ∙ c.if-inside.false) (ap is_high (sym ((c.byte_at-b.ensures ∙ byte_at_lem _ _))) ∙ sym c.is_high.ensures ∙ not-true _ c.if-not-is_high.true-raw))
+returns-then-not-is_high c = λ w. reads_is c.args.text.now c.args.at (str w h2d) (str w plain) _ _ c.bad.ensures (no_high c.args.text.now c.args.at w (ap (inside 48 55) (sym ((c.byte_at-b.ensures ∙ byte_at_lem _ _))) ∙ sym c.inside.ensures ∙ c.if-inside.false) (ap is_high (sym ((c.byte_at-b.ensures ∙ byte_at_lem _ _))) ∙ sym c.is_high.ensures ∙ c.if-not-is_high.true))
 
 pub overflow_add-at-2 : goal.overflow_add-at-2
 overflow_add-at-2 c =
-    let h = lt_of_class is_high refl c.args.text.now c.args.at (ap is_high (sym ((c.byte_at-b.ensures ∙ byte_at_lem _ _))) ∙ sym c.is_high.ensures ∙ not-false _ c.if-not-is_high.false-raw) in
+    let h = lt_of_class is_high refl c.args.text.now c.args.at (ap is_high (sym ((c.byte_at-b.ensures ∙ byte_at_lem _ _))) ∙ sym c.is_high.ensures ∙ c.if-not-is_high.false) in
     omega arith
 
 pub returns-in-Next : goal.returns-in-Next
-returns-in-Next c = λ w. high_on c.args.text.now c.args.at w (ap (inside 48 55) (sym ((c.byte_at-b.ensures ∙ byte_at_lem _ _))) ∙ sym c.inside.ensures ∙ c.if-inside.false) (ap is_high (sym ((c.byte_at-b.ensures ∙ byte_at_lem _ _))) ∙ sym c.is_high.ensures ∙ not-false _ c.if-not-is_high.false-raw) _ (reads_then c.args.text.now (c.args.at + 1) (str w g3) (str w g5) (str w plain) _ (reads_is c.args.text.now (c.args.at + 1) (str w g3) (str w g5) _ _ c.two_hex-2.ensures (high_two c.args.text.now (c.args.at + 1) w)) _ c.in-Next.is _ (c.low_half.ensures w))
+returns-in-Next c = λ w. high_on c.args.text.now c.args.at w (ap (inside 48 55) (sym ((c.byte_at-b.ensures ∙ byte_at_lem _ _))) ∙ sym c.inside.ensures ∙ c.if-inside.false) (ap is_high (sym ((c.byte_at-b.ensures ∙ byte_at_lem _ _))) ∙ sym c.is_high.ensures ∙ c.if-not-is_high.false) _ (reads_then c.args.text.now (c.args.at + 1) (str w g3) (str w g5) (str w plain) _ (reads_is c.args.text.now (c.args.at + 1) (str w g3) (str w g5) _ _ c.two_hex-2.ensures (high_two c.args.text.now (c.args.at + 1) w)) _ c.in-Next.is _ (c.low_half.ensures w))
 
 pub returns-in-Fails : goal.returns-in-Fails
-returns-in-Fails c = λ w. high_on c.args.text.now c.args.at w (ap (inside 48 55) (sym ((c.byte_at-b.ensures ∙ byte_at_lem _ _))) ∙ sym c.inside.ensures ∙ c.if-inside.false) (ap is_high (sym ((c.byte_at-b.ensures ∙ byte_at_lem _ _))) ∙ sym c.is_high.ensures ∙ not-false _ c.if-not-is_high.false-raw) _ (reads_bad c.args.text.now (c.args.at + 1) (str w g3) (str w g5) (str w plain) _ (reads_is c.args.text.now (c.args.at + 1) (str w g3) (str w g5) _ _ c.two_hex-2.ensures (high_two c.args.text.now (c.args.at + 1) w)) _ c.in-Fails.is)
+returns-in-Fails c = λ w. high_on c.args.text.now c.args.at w (ap (inside 48 55) (sym ((c.byte_at-b.ensures ∙ byte_at_lem _ _))) ∙ sym c.inside.ensures ∙ c.if-inside.false) (ap is_high (sym ((c.byte_at-b.ensures ∙ byte_at_lem _ _))) ∙ sym c.is_high.ensures ∙ c.if-not-is_high.false) _ (reads_bad c.args.text.now (c.args.at + 1) (str w g3) (str w g5) (str w plain) _ (reads_is c.args.text.now (c.args.at + 1) (str w g3) (str w g5) _ _ c.two_hex-2.ensures (high_two c.args.text.now (c.args.at + 1) w)) _ c.in-Fails.is)

@@ -1,6 +1,5 @@
 -- `json_scan::digits` meets its contract: each byte that was passed is a digit, and leaves a mode as it was that a digit leaves so.
 -- Assumes nothing.
-use borrow.Author.Tests.{not-true, not-false}
 use mathlib.Core.Path.{refl, sym, ap, ◌∙◌}
 use native.Mathlib.Omega.{arith}
 use lib.ListN.{get_or-eq_default}
@@ -12,13 +11,13 @@ pub loop-at-init : goal.loop-at-init
 loop-at-init c = (omega arith, omega arith, λ m s k. refl)
 
 pub returns-then-not-is_digit : goal.returns-then-not-is_digit
-returns-then-not-is_digit c = record { low = c.loop-at.invariant.0; high = c.loop-at.invariant.1; same = c.loop-at.invariant.2; past = sym c.is_digit.ensures ∙ not-true _ c.if-not-is_digit.true-raw }
+returns-then-not-is_digit c = record { low = c.loop-at.invariant.0; high = c.loop-at.invariant.1; same = c.loop-at.invariant.2; past = sym c.is_digit.ensures ∙ c.if-not-is_digit.true }
 
 pub loop-at-preserved : goal.loop-at-preserved
 loop-at-preserved c = (
   omega arith,
   omega arith,
-  λ m s k. c.loop-at.invariant.2 m s k ∙ hop _ m k c.loop-at.at m k c.loop-at-test.true (s _ k (sym c.is_digit.ensures ∙ not-false _ c.if-not-is_digit.false-raw)),
+  λ m s k. c.loop-at.invariant.2 m s k ∙ hop _ m k c.loop-at.at m k c.loop-at-test.true (s _ k (sym c.is_digit.ensures ∙ c.if-not-is_digit.false)),
 )
 
 pub returns : goal.returns

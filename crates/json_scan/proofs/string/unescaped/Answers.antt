@@ -1,6 +1,5 @@
 -- `json_scan::unescaped` meets its contract: each byte that was passed stands for itself, and leaves a mode as it was that letters leave so.
 -- Assumes nothing.
-use borrow.Author.Tests.{not-true, not-false}
 use mathlib.Core.Path.{refl, sym, ap, ◌∙◌}
 use native.Mathlib.Omega.{arith}
 use lib.ListN.{get_or-eq_default}
@@ -12,13 +11,13 @@ pub loop-at-init : goal.loop-at-init
 loop-at-init c = (omega arith, omega arith, λ m s k. refl)
 
 pub returns-then-not-is_unescaped : goal.returns-then-not-is_unescaped
-returns-then-not-is_unescaped c = record { low = c.loop-at.invariant.0; high = c.loop-at.invariant.1; same = c.loop-at.invariant.2; past = sym c.is_unescaped.ensures ∙ not-true _ c.if-not-is_unescaped.true-raw }
+returns-then-not-is_unescaped c = record { low = c.loop-at.invariant.0; high = c.loop-at.invariant.1; same = c.loop-at.invariant.2; past = sym c.is_unescaped.ensures ∙ c.if-not-is_unescaped.true }
 
 pub loop-at-preserved : goal.loop-at-preserved
 loop-at-preserved c = (
   omega arith,
   omega arith,
-  λ m s k. c.loop-at.invariant.2 m s k ∙ hop _ m k c.loop-at.at m k c.loop-at-test.true (s _ k (sym c.is_unescaped.ensures ∙ not-false _ c.if-not-is_unescaped.false-raw)),
+  λ m s k. c.loop-at.invariant.2 m s k ∙ hop _ m k c.loop-at.at m k c.loop-at-test.true (s _ k (sym c.is_unescaped.ensures ∙ c.if-not-is_unescaped.false)),
 )
 
 pub returns : goal.returns

@@ -14,7 +14,7 @@ use borrow.Author.Rules.{rules}
 use Rattle.resolve.proofs.clash.no_clash.Goals as goal
 
 pub returns-then-not-is_ruled : goal.returns-then-not-is_ruled
-returns-then-not-is_ruled c = (unruled _ _ _ _ refl (sym (c.is_ruled.ensures _ c.kind_number-kind.ensures) ∙ not-true _ c.if-not-is_ruled.true-raw), c.requires.3)
+returns-then-not-is_ruled c = (unruled _ _ _ _ refl (sym (c.is_ruled.ensures _ c.kind_number-kind.ensures) ∙ c.if-not-is_ruled.true), c.requires.3)
 
 pub loop-j-init : goal.loop-j-init
 loop-j-init c = (search rules, search rules, c.requires.3, under_none _ _ _ _ _ _, clash_start _ _ _ _ _ refl c.depth_at-depth.ensures.0)
@@ -29,7 +29,7 @@ pub returns-then-depth_at-depth : goal.returns-then-depth_at-depth
 returns-then-depth_at-depth c = (clash_stop _ _ _ _ _ _ _ c.loop-j.invariant.4 c.loop-j-test.true _ c.depth_at.ensures.0 c.if-depth_at-depth.true, c.loop-j.invariant.2)
 
 pub loop-j-preserved-then-not-may_meet : goal.loop-j-preserved-then-not-may_meet
-loop-j-preserved-then-not-may_meet c = (search rules, search rules, c.loop-j.invariant.2, under_past _ _ _ _ _ _ _ c.loop-j.invariant.3 (sym (c.may_meet.ensures _ c.kind_number-kind.ensures) ∙ not-true _ c.if-not-may_meet.true-raw), clash_past _ _ _ _ _ _ _ c.loop-j.invariant.4 c.loop-j-test.true _ c.depth_at.ensures.0 (omega arith) (omega arith) (sym (c.may_meet.ensures _ c.kind_number-kind.ensures) ∙ not-true _ c.if-not-may_meet.true-raw))
+loop-j-preserved-then-not-may_meet c = (search rules, search rules, c.loop-j.invariant.2, under_past _ _ _ _ _ _ _ c.loop-j.invariant.3 (sym (c.may_meet.ensures _ c.kind_number-kind.ensures) ∙ c.if-not-may_meet.true), clash_past _ _ _ _ _ _ _ c.loop-j.invariant.4 c.loop-j-test.true _ c.depth_at.ensures.0 (omega arith) (omega arith) (sym (c.may_meet.ensures _ c.kind_number-kind.ensures) ∙ c.if-not-may_meet.true))
 
 pub meets_earlier-requires : goal.meets_earlier-requires
 meets_earlier-requires c = (search rules, search rules, search rules, search rules, c.loop-j.invariant.2, c.kind_number-kind.ensures, c.loop-j.invariant.3)

@@ -10,7 +10,7 @@ pub returns-then-text-gt-LONGEST : goal.returns-then-text-gt-LONGEST
 returns-then-text-gt-LONGEST c = too_long _ c.if-text-gt-LONGEST.true
 
 pub returns-then-not-passes : goal.returns-then-not-passes
-returns-then-not-passes c = not_passed _ c.if-text-gt-LONGEST.false (sym c.passes.ensures ∙ not-true _ c.if-not-passes.true-raw)
+returns-then-not-passes c = not_passed _ c.if-text-gt-LONGEST.false (sym c.passes.ensures ∙ c.if-not-passes.true)
 
 pub returns : goal.returns
-returns c = c.is_cut.ensures ∙ passed _ c.if-text-gt-LONGEST.false (sym c.passes.ensures ∙ not-false _ c.if-not-passes.false-raw)
+returns c = c.is_cut.ensures ∙ passed _ c.if-text-gt-LONGEST.false (sym c.passes.ensures ∙ c.if-not-passes.false)

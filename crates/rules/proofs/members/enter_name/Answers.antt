@@ -11,7 +11,7 @@ pub enter-requires : goal.enter-requires
 enter-requires c = c.requires.3
 
 pub returns-then-not-enter : goal.returns-then-not-enter
-returns-then-not-enter c = (name_unmarked _ _ _ _ c.requires.4 c.mark_of.ensures c.enter.ensures.0 (not-true _ c.if-not-enter.true-raw), c.enter.ensures.1 ∙ ap (entered c.args.table.now) c.mark_of.ensures)
+returns-then-not-enter c = (name_unmarked _ _ _ _ c.requires.4 c.mark_of.ensures c.enter.ensures.0 c.if-not-enter.true, c.enter.ensures.1 ∙ ap (entered c.args.table.now) c.mark_of.ensures)
 
 pub returns : goal.returns
 returns c = (c.is_new_name.ensures, c.enter.ensures.1 ∙ ap (entered c.args.table.now) c.mark_of.ensures)

@@ -25,4 +25,4 @@ pub loop-spot-smaller : goal.loop-spot-smaller
 loop-spot-smaller c = visit_less _ c.in-At.is c.next_element-spot.ensures
 
 pub loop-spot-preserved : goal.loop-spot-preserved
-loop-spot-preserved c = (search rules, going_on _ _ _ c.loop-spot.invariant.1 c.in-At.is c.enter_member.ensures (not-false _ c.if-not-enter_member.false-raw) c.next_element-spot.ensures)
+loop-spot-preserved c = (search rules, going_on _ _ _ c.loop-spot.invariant.1 c.in-At.is c.enter_member.ensures c.if-not-enter_member.false c.next_element-spot.ensures)

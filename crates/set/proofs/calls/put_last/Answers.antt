@@ -12,7 +12,7 @@ pub asks_to_fit-requires : goal.asks_to_fit-requires
 asks_to_fit-requires c = c.requires.2.drafted.long
 
 pub returns-then-not-asks_to_fit : goal.returns-then-not-asks_to_fit
-returns-then-not-asks_to_fit c = joined_last _ _ _ c.asks_to_fit.ensures (not-true _ c.if-not-asks_to_fit.true-raw) _ c.join.ensures
+returns-then-not-asks_to_fit c = joined_last _ _ _ c.asks_to_fit.ensures c.if-not-asks_to_fit.true _ c.join.ensures
 
 pub append-a-requires : goal.append-a-requires
 append-a-requires c = let h = copied_asks _ c.requires.0 _ refl c.copy.ensures c.requires.1 in (h.0, h.1, c.requires.2)
