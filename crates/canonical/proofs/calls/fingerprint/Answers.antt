@@ -6,6 +6,7 @@ use native.Mathlib.Omega.{arith}
 use lib.ListN.{length-replicate}
 use lib.IntN.{ℤ}
 use mir.Facts.{to_z-of_z}
+use mir.Syntax.{w64}
 use borrow.Author.Tests.{not-true, not-false}
 use borrow.Author.Rules.{sfits_of, rules}
 use Rattle.answer.specs.declared.refusal.Refusal.{Refusal}
@@ -32,4 +33,4 @@ print_of-requires c =
 pub returns : goal.returns
 returns c =
     let w = sym c.well_formed-2.ensures ∙ c.if-not-well_formed.false in
-    ap (λ (f : ℤ). numbers_of_print (Fingerprint f)) (to_z-of_z (sfits_of c.print_of.type_inv)) ∙ print_found _ _ w (place_counted _ _ w _ c.declarations.ensures (omega (arith, c.if-declarations-place.false))) _ c.print_of.ensures.0
+    ap (λ (f : ℤ). numbers_of_print (Fingerprint f)) (to_z-of_z {w = w64} (sfits_of c.print_of.type_inv)) ∙ print_found _ _ w (place_counted _ _ w _ c.declarations.ensures (omega (arith, c.if-declarations-place.false))) _ c.print_of.ensures.0
