@@ -4,7 +4,6 @@ use mathlib.Core.Path.{◌∙◌}
 use Prim.Native.Nat.{ℕ}
 use native.Mathlib.Omega.{arith}
 use lib.ListN.{length-replicate}
-use borrow.Author.Rules.{rules}
 use Rattle.walk.proofs.Laws.{gave_went, gave_stopped}
 use Rattle.summary.proofs.FormedLaws.{formed_long, formed_few, formed_rows, place_few, place_start}
 use Rattle.summary.proofs.ReadLaws.{datum_is, read_stopped, read_left, read_full, read_room, read_given}
