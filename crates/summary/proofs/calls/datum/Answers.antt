@@ -2,8 +2,6 @@
 -- Assumes nothing.
 use mathlib.Core.Path.{sym, ◌∙◌}
 use native.Mathlib.Omega.{arith}
-use borrow.Author.Tests.{not-true, not-false}
-use borrow.Author.Rules.{rules}
 use Rattle.summary.proofs.FormedLaws.{formed_long}
 use Rattle.summary.proofs.CallLaws.{as_read, datum_broken, datum_absent, datum_place, datum_read}
 use Rattle.summary.proofs.calls.datum.Goals as goal

@@ -5,10 +5,8 @@ use native.Mathlib.Omega.{arith}
 use mir.Syntax.{w64}
 use mir.Facts.{to_z-of_z}
 use Rattle.rabin.specs.Rabin.{bytes_of}
-use borrow.Author.Tests.{not-true, not-false}
 use Rattle.summary.proofs.FormedLaws.{formed_long}
 use Rattle.summary.proofs.CallLaws.{find_broken, find_unknown, find_found}
-use borrow.Author.Rules.{rules}
 use Rattle.summary.proofs.calls.find.Goals as goal
 
 pub returns-then-not-well_formed : goal.returns-then-not-well_formed

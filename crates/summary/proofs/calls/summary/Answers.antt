@@ -2,8 +2,6 @@
 -- Assumes nothing.
 use mathlib.Core.Path.{sym, ◌∙◌}
 use native.Mathlib.Omega.{arith}
-use borrow.Author.Tests.{not-true, not-false}
-use borrow.Author.Rules.{rules}
 use Rattle.summary.proofs.FormedLaws.{formed_long}
 use Rattle.summary.proofs.CallLaws.{as_read, summary_broken, summary_marker, summary_cut, summary_unknown, summary_place, summary_read}
 use Rattle.summary.proofs.calls.summary.Goals as goal
