@@ -2,8 +2,6 @@
 -- Assumes nothing.
 use mathlib.Core.Path.{sym, ap, ◌∙◌}
 use native.Mathlib.Omega.{arith}
-use borrow.Author.Tests.{not-true, not-false}
-use borrow.Author.Rules.{rules}
 use Rattle.answer.specs.Answers.{of_refusal}
 use Rattle.canonical.specs.Calls.{numbers_of_written}
 use Rattle.canonical.proofs.CallLaws.{length_told, canonical_refused, canonical_full, canonical_room, canonical_written}

@@ -2,8 +2,6 @@
 -- Assumes nothing.
 use mathlib.Core.Path.{sym, ap, ◌∙◌}
 use native.Mathlib.Omega.{arith}
-use borrow.Author.Tests.{not-true, not-false}
-use borrow.Author.Rules.{rules}
 use Rattle.answer.specs.Answers.{of_refusal}
 use Rattle.canonical.proofs.CallLaws.{formed_long, length_broken, length_absent, place_counted, length_found}
 use Rattle.canonical.proofs.calls.canonical_length.Goals as goal

@@ -7,8 +7,7 @@ use lib.ListN.{length-replicate}
 use lib.IntN.{ℤ}
 use mir.Facts.{to_z-of_z}
 use mir.Syntax.{w64}
-use borrow.Author.Tests.{not-true, not-false}
-use borrow.Author.Rules.{sfits_of, rules}
+use borrow.Author.Rules.{sfits_of}
 use Rattle.answer.specs.declared.refusal.Refusal.{Refusal}
 use Rattle.canonical.specs.Calls.{numbers_of_print}
 use Rattle.canonical.specs.Walk.{text_limit}

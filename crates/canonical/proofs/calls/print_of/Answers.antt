@@ -4,7 +4,7 @@ use mathlib.Core.Path.{ap, ◌∙◌}
 use native.Mathlib.Omega.{arith}
 use mir.Facts.{to_z-of_z}
 use mir.Syntax.{w64}
-use borrow.Author.Rules.{sfits_of, rules}
+use borrow.Author.Rules.{sfits_of}
 use Rattle.rabin.specs.Rabin.{rabin_of}
 use Rattle.canonical.proofs.WriteLaws.{wrote_length}
 use Rattle.canonical.proofs.CallLaws.{print_fits, print_front}

@@ -1,9 +1,5 @@
 -- `canonical::decimal::write_digits` meets its contract: the last digit behind those of a tenth.
 -- Assumes nothing.
-use Prim.Native.Nat.{ℕ, ◌<◌}
-use native.Mathlib.Omega.{arith}
-use borrow.Author.Rules.{rules}
-use Rattle.canonical.proofs.DecimalLaws.{one_digit, tenth_length, some_digits, last_digit}
 use Rattle.canonical.proofs.decimal.+write_digits.Given as goal
 
 abbrev pub decreases-write_digits : goal.decreases-write_digits

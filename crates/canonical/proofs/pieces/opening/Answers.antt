@@ -1,6 +1,5 @@
 -- `canonical::pieces::opening` meets its contract: each arm writes its kind's text.
 -- Assumes nothing.
-use borrow.Author.Rules.{rules}
 use Rattle.canonical.specs.Pieces.{opening}
 use Rattle.canonical.proofs.PieceLaws.{opening_told, opening_quoted, opening_none, opening_word}
 use Rattle.canonical.proofs.WriteLaws.{wrote_none, wrote_eq}

@@ -3,7 +3,7 @@
 use mathlib.Core.Path.{◌∙◌}
 use mir.Facts.{to_z-of_z}
 use mir.Syntax.{w64}
-use borrow.Author.Rules.{sfits_of, rules}
+use borrow.Author.Rules.{sfits_of}
 use Rattle.canonical.proofs.PlaceLaws.{print_same}
 use Rattle.canonical.proofs.places.has_print.Goals as goal
 

@@ -2,14 +2,11 @@
 -- Assumes nothing.
 use mathlib.Core.Path.{sym, ◌∙◌}
 use mathlib.Core.Bool.{true}
-use mathlib.Core.Logic.{⊎_elim}
-use Prim.Native.Nat.{◌+◌, ◌*◌, ◌-◌, ℕ, ◌<◌}
 use native.Mathlib.Omega.{arith}
 use borrow.Author.Rules.{rules}
-use Rattle.canonical.specs.Walk.{parts_text}
 use Rattle.canonical.proofs.PieceLaws.{opening_name, name_fits}
-use Rattle.canonical.proofs.WalkLaws.{over, over_start, over_end, under_before, turn_fits, turn_skip, turn_part, text_none, text_some, pieces_fit}
-use Rattle.canonical.proofs.WriteLaws.{wrote_none, wrote_eq, wrote_then, wrote_lent, Sofar, sofar_none, sofar_fits, sofar_length, sofar_end}
+use Rattle.canonical.proofs.WalkLaws.{over_start, over_end, under_before, turn_fits, turn_skip, turn_part, text_none, text_some, pieces_fit}
+use Rattle.canonical.proofs.WriteLaws.{wrote_none, wrote_eq, wrote_then, wrote_lent, sofar_none, sofar_fits, sofar_length, sofar_end}
 use Rattle.canonical.proofs.text.+write_parts_write_piece.Goals as goal
 use Rattle.canonical.proofs.text.+write_parts_write_piece.Goals.{write_parts-then-is_part, write_parts-else-is_part}
 

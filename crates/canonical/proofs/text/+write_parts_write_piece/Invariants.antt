@@ -1,15 +1,9 @@
 -- `canonical::text`'s `write_parts` and `write_piece` meet their contracts: of the texts of the parts, what is written so far and what is left; and a row's three pieces one behind the other.
 -- Assumes nothing.
-use mathlib.Core.Path.{sym, ◌∙◌}
-use mathlib.Core.Bool.{true}
-use mathlib.Core.Logic.{⊎_elim}
-use Prim.Native.Nat.{◌+◌, ◌*◌, ◌-◌, ℕ, ◌<◌}
-use native.Mathlib.Omega.{arith}
-use borrow.Author.Rules.{rules}
+use Prim.Native.Nat.{◌+◌, ◌*◌, ◌-◌}
 use Rattle.canonical.specs.Walk.{parts_text}
-use Rattle.canonical.proofs.PieceLaws.{opening_name, name_fits}
-use Rattle.canonical.proofs.WalkLaws.{over, over_start, over_end, under_before, turn_fits, turn_skip, turn_part, text_none, text_some, pieces_fit}
-use Rattle.canonical.proofs.WriteLaws.{wrote_none, wrote_eq, wrote_then, wrote_lent, Sofar, sofar_none, sofar_fits, sofar_length, sofar_end}
+use Rattle.canonical.proofs.WalkLaws.{over}
+use Rattle.canonical.proofs.WriteLaws.{Sofar}
 use Rattle.canonical.proofs.text.+write_parts_write_piece.Given as goal
 
 abbrev pub decreases-write_parts : goal.decreases-write_parts

@@ -3,8 +3,6 @@
 use mathlib.Core.Path.{refl, sym, ◌∙◌}
 use Rattle.set.proofs.Places.{is_long}
 use Rattle.set.proofs.CallLaws.{put_not, put_nowhere, put_many, put_asks, put_bad, put_read}
-use borrow.Author.Rules.{rules}
-use borrow.Author.Tests.{not-true, not-false}
 use Rattle.set.proofs.calls.put.Goals as goal
 
 pub returns-then-not-well_formed : goal.returns-then-not-well_formed

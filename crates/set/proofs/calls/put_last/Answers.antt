@@ -4,8 +4,6 @@ use mathlib.Core.Path.{refl, sym, ◌∙◌}
 use Rattle.set.proofs.Places.{is_long}
 use Rattle.set.proofs.Accepts.{joined_last}
 use Rattle.set.proofs.CallLaws.{copied_asks, copied_settled}
-use borrow.Author.Rules.{rules}
-use borrow.Author.Tests.{not-true}
 use Rattle.set.proofs.calls.put_last.Goals as goal
 
 pub asks_to_fit-requires : goal.asks_to_fit-requires

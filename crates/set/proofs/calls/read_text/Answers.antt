@@ -1,7 +1,6 @@
 -- `set::calls::read_text` meets its contract.
 -- Assumes nothing.
 use Rattle.set.proofs.Drafts.{wrote}
-use borrow.Author.Rules.{rules}
 use Rattle.set.proofs.calls.read_text.Goals as goal
 
 pub returns : goal.returns

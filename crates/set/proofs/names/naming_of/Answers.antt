@@ -2,8 +2,6 @@
 -- Assumes nothing.
 use mathlib.Core.Path.{sym, ◌∙◌}
 use Rattle.set.proofs.NameLaws.{naming_not, naming_none, naming_done}
-use borrow.Author.Rules.{rules}
-use borrow.Author.Tests.{not-true, not-false}
 use Rattle.set.proofs.names.naming_of.Goals as goal
 
 pub returns-then-not-well_formed : goal.returns-then-not-well_formed
