@@ -34,8 +34,8 @@ write_parts-loop-part-smaller t c = omega (arith, under_before _ 0 _ _ true _ (s
 pub write_parts-loop-part-preserved : goal.write_parts-loop-part-preserved
 write_parts-loop-part-preserved t c =
     elim c.if-is_part.branch [
-      write_parts-then-is_part w ↦ turn_part _ _ _ _ _ _ c.loop-part.invariant (sym c.is_under.ensures ∙ c.loop-part-test.true) (sym c.is_part.ensures ∙ w.if-is_part.true) w.comma-to.ensures _ _ _ w.least-from.ensures w.write_piece.ensures _ _ _ w.part-is w.at-is w.first-is
-    | write_parts-else-is_part w ↦ turn_skip _ _ _ _ _ _ c.loop-part.invariant (sym c.is_under.ensures ∙ c.loop-part-test.true) (sym c.is_part.ensures ∙ w.if-is_part.false) _ _ _ w.part-is w.at-is w.first-is
+      | write_parts-then-is_part w ↦ turn_part _ _ _ _ _ _ c.loop-part.invariant (sym c.is_under.ensures ∙ c.loop-part-test.true) (sym c.is_part.ensures ∙ w.if-is_part.true) w.comma-to.ensures _ _ _ w.least-from.ensures w.write_piece.ensures _ _ _ w.part-is w.at-is w.first-is
+      | write_parts-else-is_part w ↦ turn_skip _ _ _ _ _ _ c.loop-part.invariant (sym c.is_under.ensures ∙ c.loop-part-test.true) (sym c.is_part.ensures ∙ w.if-is_part.false) _ _ _ w.part-is w.at-is w.first-is
     ]
 
 pub write_parts-shape_of-part : goal.write_parts-shape_of-part
