@@ -7,7 +7,8 @@ use Rattle.answer.proofs.Laws.{number, first, second}
 use Rattle.dhokyurai.specs.Signed.{signed}
 use borrow.Author.Rules.{rules, sfits_of}
 use mir.Facts.{to_z-of_z}
+use mir.Syntax.{w64}
 use Rattle.dhokyurai.proofs.dhokyurai_fingerprint.Goals as goal
 
 pub returns : goal.returns
-returns c = let e = c.of_print-n.ensures ∙ ap (λ (p : Numbers × ℤ). p.0) c.fingerprint-p.ensures in (number e, to_z-of_z (sfits_of c.value.type_inv) ∙ c.value.ensures ∙ ap (λ (p : Numbers × ℤ). signed p.1) c.fingerprint-p.ensures, first e, second e)
+returns c = let e = c.of_print-n.ensures ∙ ap (λ (p : Numbers × ℤ). p.0) c.fingerprint-p.ensures in (number e, to_z-of_z {w = w64} (sfits_of c.value.type_inv) ∙ c.value.ensures ∙ ap (λ (p : Numbers × ℤ). signed p.1) c.fingerprint-p.ensures, first e, second e)
