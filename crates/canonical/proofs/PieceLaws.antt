@@ -96,7 +96,7 @@ name_fits m i s e h =
 
 -- ---- the arms
 
-abbrev shown : List ℕ
+abbrev pub shown : List ℕ
 shown = 0 ∷ 1 ∷ 2 ∷ 3 ∷ 4 ∷ 5 ∷ 6 ∷ 7 ∷ 8 ∷ 9 ∷ 10 ∷ 11 ∷ 12 ∷ 13 ∷ 14 ∷ 15 ∷ 16 ∷ []
 
 pub written_told : (k : Kind) → OneOf shown (tag_of the_type k) → true ≡ is_written k
@@ -117,14 +117,14 @@ pub closing_both : (k : Kind) → OneOf listing (tag_of the_type k) → ascii "]
 unfolding every same closing
 closing_both k h = same_told (λ (k : Kind). ascii "]}") closing listing refl k h
 
-abbrev open_ended : List ℕ
+abbrev pub open_ended : List ℕ
 open_ended = 0 ∷ 1 ∷ 2 ∷ 3 ∷ 4 ∷ 5 ∷ 6 ∷ 7 ∷ 8 ∷ 16 ∷ 17 ∷ 18 ∷ []
 
 pub closing_none : (k : Kind) → OneOf open_ended (tag_of the_type k) → [] ≡ closing k
 unfolding every same closing
 closing_none k h = same_told (λ (k : Kind). []) closing open_ended refl k h
 
-abbrev wordless : List ℕ
+abbrev pub wordless : List ℕ
 wordless = 8 ∷ 9 ∷ 10 ∷ 11 ∷ 12 ∷ 13 ∷ 14 ∷ 15 ∷ 16 ∷ 17 ∷ 18 ∷ []
 
 pub word_none : (k : Kind) → OneOf wordless (tag_of the_type k) → [] ≡ word_of k

@@ -65,7 +65,7 @@ three (v ∷ a ∷ b ∷ []) bytes e = refl
 three (v ∷ a ∷ b ∷ c ∷ ws) bytes e = absurd (omega arith)
 
 four : (ws : List (List ℕ)) (bytes : Unhexed) → length ws ≡ 4
-    → of_three (get_or ws 0 []) (number_of (get_or ws 1 [])) (number_of (get_or ws 2 [])) (number_of (get_or ws 3 [])) bytes ≡ of_words ws bytes
+    → of_three (get_or ws 0 []) (number_of (get_or ws 1 [])) (number_of (get_or ws 2 [])) (number_of (get_or ws 3 [])) ≡ of_words ws bytes
 four [] bytes e = absurd (omega arith)
 four (v ∷ []) bytes e = absurd (omega arith)
 four (v ∷ a ∷ []) bytes e = absurd (omega arith)
@@ -101,7 +101,7 @@ module _ (line : List ℕ) (bytes : Unhexed) (n : ℕ) (count : n ≡ length (wo
       unfolding word_at
       words_three h = rw (ex, ew, ev, ex₂, ew₂) (three (words_of line) bytes (sym count ∙ h))
 
-      pub words_four : (x₃ : Number) (w₃ : List ℕ) → w₃ ≡ word_at line 3 → x₃ ≡ number_of w₃ → n ≡ 4 → of_three v x x₂ x₃ bytes ≡ of_words (words_of line) bytes
+      pub words_four : (x₃ : Number) (w₃ : List ℕ) → w₃ ≡ word_at line 3 → x₃ ≡ number_of w₃ → n ≡ 4 → of_three v x x₂ x₃ ≡ of_words (words_of line) bytes
       unfolding word_at
       words_four x₃ w₃ ew₃ ex₃ h = rw (ex, ew, ev, ex₂, ew₂, ex₃, ew₃) (four (words_of line) bytes (sym count ∙ h))
 

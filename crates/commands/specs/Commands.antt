@@ -12,7 +12,7 @@ use Rattle.script.specs.declared.numbers.Number.TheVariants.{Is, NoNumber}
 use Rattle.script.specs.declared.hex.Unhexed.{Unhexed}
 use Rattle.script.specs.declared.hex.Unhexed.TheVariants.{Bytes, NotHex}
 use Rattle.commands.specs.declared.command.Call.{Call}
-use Rattle.commands.specs.declared.command.Call.TheVariants.{Open, Put, Name, Canonical, Fingerprint, Rows, Scan, Summary, Find, Datum, Digest}
+use Rattle.commands.specs.declared.command.Call.TheVariants.{Open, Put, Name, Canonical, Fingerprint, Rows, Scan, Digest}
 use Rattle.commands.specs.declared.command.Command.{Command}
 use Rattle.commands.specs.declared.command.Command.TheVariants.{Lend, Fill, Poke, Ask, Unknown}
 
@@ -38,12 +38,8 @@ abbrev pub scan_by : Unhexed → Command
 scan_by (Bytes n) = Ask (Scan n)
 scan_by NotHex = Unknown
 
-abbrev pub find_by : Unhexed → Command
-find_by (Bytes n) = Ask (Find n)
-find_by NotHex = Unknown
-
 unfoldable pub of_one : List ℕ → Number → Unhexed → Command
-of_one verb number bytes = cond (same verb (ascii "scan")) (scan_by bytes) (cond (same verb (ascii "find")) (find_by bytes) (by_number verb number))
+of_one verb number bytes = cond (same verb (ascii "scan")) (scan_by bytes) (by_number verb number)
 
 abbrev pub name_of : Number → Number → Command
 name_of NoNumber row = Unknown
@@ -51,10 +47,7 @@ name_of (Is place) NoNumber = Unknown
 name_of (Is place) (Is row) = Ask (Name place row)
 
 unfoldable pub of_bytes_at : List ℕ → ℕ → ℕ → Command
-of_bytes_at verb at n =
-    cond (same verb (ascii "poke")) (Poke at n)
-    (cond (same verb (ascii "put")) (Ask (Put at n))
-    (cond (same verb (ascii "summary")) (Ask (Summary at n)) Unknown))
+of_bytes_at verb at n = cond (same verb (ascii "poke")) (Poke at n) (cond (same verb (ascii "put")) (Ask (Put at n)) Unknown)
 
 abbrev pub by_bytes_at : List ℕ → Number → Unhexed → Command
 by_bytes_at verb NoNumber bytes = Unknown
@@ -70,16 +63,8 @@ canonical_by (Is place) NoNumber room = Unknown
 canonical_by (Is place) (Is offset) NoNumber = Unknown
 canonical_by (Is place) (Is offset) (Is room) = Ask (Canonical place offset room)
 
-abbrev pub datum_by : Number → Number → Unhexed → Command
-datum_by NoNumber room bytes = Unknown
-datum_by (Is place) NoNumber bytes = Unknown
-datum_by (Is place) (Is room) NotHex = Unknown
-datum_by (Is place) (Is room) (Bytes n) = Ask (Datum place room n)
-
-unfoldable pub of_three : List ℕ → Number → Number → Number → Unhexed → Command
-of_three verb first second third bytes =
-    cond (same verb (ascii "canonical")) (canonical_by first second third)
-    (cond (same verb (ascii "datum")) (datum_by first second bytes) Unknown)
+unfoldable pub of_three : List ℕ → Number → Number → Number → Command
+of_three verb first second third = cond (same verb (ascii "canonical")) (canonical_by first second third) Unknown
 
 -- a verb with up to three words, of which the last stands for these bytes
 abbrev pub of_words : List (List ℕ) → Unhexed → Command
@@ -87,7 +72,7 @@ of_words [] bytes = Unknown
 of_words (verb ∷ []) bytes = of_none verb
 of_words (verb ∷ a ∷ []) bytes = of_one verb (number_of a) bytes
 of_words (verb ∷ a ∷ b ∷ []) bytes = of_two verb (number_of a) (number_of b) bytes
-of_words (verb ∷ a ∷ b ∷ c ∷ []) bytes = of_three verb (number_of a) (number_of b) (number_of c) bytes
+of_words (verb ∷ a ∷ b ∷ c ∷ []) bytes = of_three verb (number_of a) (number_of b) (number_of c)
 of_words (verb ∷ a ∷ b ∷ c ∷ d ∷ more) bytes = Unknown
 
 -- the last word of a line; of one that was cut, whole pairs of it
@@ -96,7 +81,7 @@ last_word line cut =
     let last = word_at line (length (words_of line) - 1) in
     cond cut (take (length last / 2 * 2) last) last
 
--- how long a declaration's text is that a call gives, 0 where it gives none: 1 is said of no other bytes
+-- how long a call's text is, 0 where it has none
 abbrev pub text_length : Call → ℕ
 text_length Open = 0
 text_length (Put place n) = n
@@ -105,9 +90,6 @@ text_length (Canonical place offset room) = 0
 text_length (Fingerprint place) = 0
 text_length (Rows place) = 0
 text_length (Scan n) = n
-text_length (Summary room n) = 0
-text_length (Find n) = 0
-text_length (Datum place room n) = 0
 text_length Digest = 0
 
 -- a line that was cut is a command only where its text is too long already

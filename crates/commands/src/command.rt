@@ -15,12 +15,6 @@ pub enum Call {
     Rows(usize),
     // A text.
     Scan(usize),
-    // A list's length and bytes.
-    Summary(usize, usize),
-    // Bytes.
-    Find(usize),
-    // A place, a list's length and bytes.
-    Datum(usize, usize, usize),
     Digest,
 }
 

@@ -3,7 +3,7 @@ ghost use Rattle.std.specs.Prelude.{◌≡◌};
 ghost use Rattle.ground.specs.Bytes.{store};
 ghost use Rattle.script.specs.Words.{words_of};
 ghost use Rattle.script.specs.Hex.{word_bytes};
-ghost use Rattle.commands.specs.Commands.{of_none, fill_by, of_number, scan_by, find_by, of_one, name_of, of_bytes_at, of_two, canonical_by, datum_by, of_three, of_words, last_word, text_length, of_cut, command_of};
+ghost use Rattle.commands.specs.Commands.{of_none, fill_by, of_number, scan_by, of_one, name_of, of_bytes_at, of_two, canonical_by, of_three, of_words, last_word, text_length, of_cut, command_of};
 
 use crate::command::{Call, Command};
 use ground::same;
@@ -60,24 +60,12 @@ fn scan_of(bytes: Unhexed) -> Command
     }
 }
 
-fn find_of(bytes: Unhexed) -> Command
-    ensures { result ≡ find_by bytes }
-{
-    match bytes {
-        Unhexed::Bytes(n) => Command::Ask(Call::Find(n)),
-        Unhexed::NotHex => Command::Unknown,
-    }
-}
-
 // A verb with one word, which stands for a number or for bytes or for both.
 fn of_one(verb: &[u8], number: Number, bytes: Unhexed) -> Command
     ensures { result ≡ of_one verb.now number bytes }
 {
     if same(verb, b"scan") {
         return scan_of(bytes);
-    }
-    if same(verb, b"find") {
-        return find_of(bytes);
     }
     match number {
         Number::Is(n) => of_number(verb, n),
@@ -105,9 +93,6 @@ fn of_bytes_at(verb: &[u8], at: usize, n: usize) -> Command
     }
     if same(verb, b"put") {
         return Command::Ask(Call::Put(at, n));
-    }
-    if same(verb, b"summary") {
-        return Command::Ask(Call::Summary(at, n));
     }
     Command::Unknown
 }
@@ -143,30 +128,11 @@ fn canonical_of(place: Number, offset: Number, room: Number) -> Command
     }
 }
 
-fn datum_of(place: Number, room: Number, bytes: Unhexed) -> Command
-    ensures { result ≡ datum_by place room bytes }
-{
-    match place {
-        Number::NoNumber => Command::Unknown,
-        Number::Is(p) => match room {
-            Number::NoNumber => Command::Unknown,
-            Number::Is(r) => match bytes {
-                Unhexed::NotHex => Command::Unknown,
-                Unhexed::Bytes(n) => Command::Ask(Call::Datum(p, r, n)),
-            },
-        },
-    }
-}
-
-// A verb with three words, of which the third stands for a number or for bytes or for both.
-fn of_three(verb: &[u8], first: Number, second: Number, third: Number, bytes: Unhexed) -> Command
-    ensures { result ≡ of_three verb.now first second third bytes }
+fn of_three(verb: &[u8], first: Number, second: Number, third: Number) -> Command
+    ensures { result ≡ of_three verb.now first second third }
 {
     if same(verb, b"canonical") {
         return canonical_of(first, second, third);
-    }
-    if same(verb, b"datum") {
-        return datum_of(first, second, bytes);
     }
     Command::Unknown
 }
@@ -190,7 +156,7 @@ fn of_words(line: &[u8], bytes: Unhexed) -> Command
         return of_two(verb, first, second, bytes);
     }
     if n == 4 {
-        return of_three(verb, first, second, third, bytes);
+        return of_three(verb, first, second, third);
     }
     Command::Unknown
 }
@@ -206,7 +172,7 @@ fn last_word(line: &[u8], cut: bool) -> &[u8]
     last
 }
 
-// How long a declaration's text is that a call gives, 0 where it gives none: 1 is said of no other bytes.
+// How long a call's text is, 0 where it has none.
 fn text_length(call: Call) -> usize
     ensures { result ≡ text_length call }
 {
@@ -218,9 +184,6 @@ fn text_length(call: Call) -> usize
         Call::Fingerprint(_) => 0,
         Call::Rows(_) => 0,
         Call::Scan(n) => n,
-        Call::Summary(_, _) => 0,
-        Call::Find(_) => 0,
-        Call::Datum(_, _, _) => 0,
         Call::Digest => 0,
     }
 }

@@ -1,7 +1,7 @@
 -- Laws for whoever reads a declaration by these views: what a check that is fine says of a name, and what was found of a form.
 -- Assumes nothing.
 use mathlib.Core.Path.{◌≡◌, refl, sym, ap, ◌∙◌}
-use mathlib.Core.Bool.{Bool, true, false, not, cond}
+use mathlib.Core.Bool.{Bool, true, false, not}
 use mathlib.Core.List.{List, [], ◌∷◌}
 use Prim.Native.Nat.{ℕ, ◌≤◌}
 use native.Mathlib.Omega.{arith}
@@ -10,15 +10,14 @@ use lib.ListN.{length}
 use borrow.Author.Tests.{leb-true, not-true}
 use Rattle.answer.specs.declared.refusal.Fault.{Fault}
 use Rattle.ground.proofs.Laws.{never}
-use Rattle.name.specs.Name.{is_empty, is_simple, is_dotted, is_name, is_namespace, has_dot, full_name, is_reserved, namespace_part}
+use Rattle.name.specs.Name.{is_simple, is_dotted, is_name, is_namespace, has_dot, full_name, is_reserved, namespace_part}
 use Rattle.name.specs.Full.{kept_limit, is_short}
-use Rattle.name.proofs.Laws.{simple_dotted, dotted_some, empty_none, full_dotted, full_reserved, namespace_good}
+use Rattle.name.proofs.Laws.{simple_dotted, dotted_some, empty_none, full_dotted, namespace_good}
 use Rattle.view.specs.declared.space.Spot.{Spot}
 use Rattle.view.specs.declared.space.Spot.TheVariants.{At, Nowhere}
 use Rattle.view.specs.declared.members.Members.{Members}
 use Rattle.view.specs.Strings.{string_at}
-use Rattle.form.specs.declared.check.Check.{Check}
-use Rattle.form.specs.declared.check.Check.TheVariants.{Fine, Bad}
+use Rattle.form.specs.declared.check.Check.TheVariants.{Fine}
 use Rattle.form.specs.Checks.{must, ◌then◌}
 use Rattle.form.specs.Spots.{on_spot, as_text}
 use Rattle.form.specs.Names.{not_aName, kept, unreserved, simple_check, full_at, reference_check, alias_check, namespace_of, defined_at, namespace_check, definition_check}

@@ -9,10 +9,8 @@ use lib.ListN.{length}
 use Rattle.ground.specs.Ascii.{ascii}
 use Rattle.ground.specs.Bytes.{same}
 use Rattle.ground.proofs.Laws.{same_unlike}
-use Rattle.row.specs.declared.kind.Kind.{Kind}
 use Rattle.row.specs.declared.kind.Kind.TheVariants.{Null, Boolean, Int, Long, Float, Double, Bytes, String, Reference}
 use Rattle.view.specs.declared.space.Spot.TheVariants.{At}
-use Rattle.form.specs.declared.forms.Form.{Form}
 use Rattle.form.specs.declared.forms.Form.TheVariants as form
 use Rattle.form.specs.Forms.{word_kind, object_form}
 

@@ -1,6 +1,6 @@
 -- What a schema at a place is.
 -- Assumes nothing.
-use Rattle.std.specs.Prelude.{ℕ, zero, suc, ◌+◌, Bool, true, false, cond, List, [], ◌∷◌}
+use Rattle.std.specs.Prelude.{ℕ, zero, suc, ◌+◌, cond, List}
 use Rattle.answer.specs.declared.refusal.Why.TheVariants.{NotASchema, TypeMissing, NestedTooDeep}
 use Rattle.ground.specs.Ascii.{ascii}
 use Rattle.ground.specs.Bytes.{same}

@@ -14,7 +14,7 @@ use Rattle.json_scan.specs.Json as A
 use Rattle.json_scan.specs.Json.{live, moved, reach, dead}
 use Rattle.json_scan.proofs.Parts.{dead_stays}
 use Rattle.json_scan.specs.Meets.{closer}
-use Rattle.grammar.specs.Grammar.{Rule, Bytes, bytes, Byte, Range, within, ◌·◌, join, ◌/◌, this, that, Optional, absent, present, Many, none, more, Some, ws, value_separator, false as false-word, null as null_word, true as true-word, DIGIT, minus, int, frac, exp, e, number, digit_D, digit_not_D, unescaped, UTF8_tail, UTF8_3, char, quotation_mark, string, value, JSON_text}
+use Rattle.grammar.specs.Grammar.{Rule, Bytes, bytes, Byte, Range, within, ◌·◌, join, ◌or◌, this, that, Optional, absent, present, Many, none, more, Some, ws, value_separator, false as false-word, null as null_word, true as true-word, DIGIT, int, frac, exp, e, number, digit_D, digit_not_D, unescaped, UTF8_tail, UTF8_3, char, quotation_mark, string, value, JSON_text}
 use Rattle.grammar.proofs.Endings.{taken, refused, ending, going}
 use Rattle.grammar.proofs.Bracketed.{opener, end_bracket, bracketed}
 use Rattle.grammar.proofs.Rests.{NumRest, Chars, quote, next as next-char, StrRest, Held, Item, After, over, space, close, comma, Opened, Keyed, Left}
@@ -64,7 +64,7 @@ module _ {b : ℕ} where
   below_8 : {u : List ℕ} → Range 48 55 (b ∷ []) → StrRest h3 u → StrRest h2d (b ∷ u)
   below_8 p (join x c) = join (this (join p x)) c
 
-  from_8 : {u : List ℕ} → (Range 56 57 / Range 65 66 / Range 97 98) (b ∷ []) → StrRest g3 u → StrRest h2d (b ∷ u)
+  from_8 : {u : List ℕ} → (Range 56 57 or Range 65 66 or Range 97 98) (b ∷ []) → StrRest g3 u → StrRest h2d (b ∷ u)
   from_8 p (join (join x y) c) = join (that (join (join p x) y)) c
 
   widened : {P : List ℕ → Type 0} {u : List ℕ} → ((v : List ℕ) → P v → unescaped (b ∷ v)) → (P · Chars) u → Chars (b ∷ u)

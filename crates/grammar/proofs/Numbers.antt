@@ -9,7 +9,7 @@ use borrow.Author.Tests.{ne_eqb}
 use lib.Dec.{eqb}
 use Rattle.json_scan.specs.Json.{Mode, Stack, Move, go, step, closes, is_digit, is_e, one, Num, num, done, number as number-move}
 use Rattle.json_scan.specs.Json as A
-use Rattle.grammar.specs.Grammar.{Byte, ◌·◌, join, ◌/◌, this, that, Optional, absent, present, Many, DIGIT, minus, digit1_9, e, int, frac, exp, number}
+use Rattle.grammar.specs.Grammar.{Byte, ◌·◌, join, ◌or◌, this, that, Optional, absent, present, Many, DIGIT, digit1_9, int, frac, exp, number}
 use Rattle.grammar.proofs.Endings.{ending, going}
 use Rattle.grammar.proofs.Takes.{Takes, Like, like_then, take_byte, take_range, take_alt, take_join, take_many}
 use Rattle.grammar.proofs.Classes.{inside_true}
@@ -55,10 +55,10 @@ module _ {Too : Type 0} {m : Mode} {k : Stack} where
           subst (λ (y : List ℕ). Like Too (ending m k y) (ending done k u)) (sym (append_assoc s t u))
           (like_then Too (p.took s c (t ++ u)) (q.ended t d u f))
 
-  pub end_alt : {P Q : List ℕ → Type 0} → Ends Too P m k → Ends Too Q m k → Ends Too (P / Q) m k
+  pub end_alt : {P Q : List ℕ → Type 0} → Ends Too P m k → Ends Too Q m k → Ends Too (P or Q) m k
   end_alt {P} {Q} p q = record { ended = λ s d u f. on d u f }
     where
-      on : {s : List ℕ} → (P / Q) s → (u : List ℕ) → Follow u → Like Too (ending m k (s ++ u)) (ending done k u)
+      on : {s : List ℕ} → (P or Q) s → (u : List ℕ) → Follow u → Like Too (ending m k (s ++ u)) (ending done k u)
       on (this d) u f = p.ended _ d u f
       on (that d) u f = q.ended _ d u f
 

@@ -9,7 +9,7 @@ use native.Mathlib.Omega.{arith}
 use borrow.Author.Tests.{eqb-true, eqb-false, leb-true}
 use lib.Dec.{eqb, leb}
 use Rattle.json_scan.specs.Json.{inside, is_space, is_hex, is_e, is_sign, is_d, is_high, is_low, is_short}
-use Rattle.grammar.specs.Grammar.{Byte, bytes, Range, within, ◌/◌, this, that, HEXDIG, digit_D, digit_not_D, e, minus, plus, short, unescaped}
+use Rattle.grammar.specs.Grammar.{Byte, bytes, Range, within, ◌or◌, this, that, HEXDIG, digit_D, digit_not_D, e, minus, plus, short, unescaped}
 
 or_split : (a b : Bool) → (a || b) ≡ true → (a ≡ true) ⊎ (b ≡ true)
 or_split true b h = inl refl
@@ -34,14 +34,14 @@ in_range lo hi b h = let l = bounds lo hi b h in within l.0 l.1
 
 module _ (b : ℕ) where
   -- one of two, of three
-  or_2 : {P Q : List ℕ → Type 0} (x y : Bool) → (x ≡ true → P (b ∷ [])) → (y ≡ true → Q (b ∷ [])) → (x || y) ≡ true → (P / Q) (b ∷ [])
+  or_2 : {P Q : List ℕ → Type 0} (x y : Bool) → (x ≡ true → P (b ∷ [])) → (y ≡ true → Q (b ∷ [])) → (x || y) ≡ true → (P or Q) (b ∷ [])
   or_2 x y p q h = ⊎_elim (λ i. this (p i)) (λ i. that (q i)) (or_split x y h)
 
   or_3 : {P Q R : List ℕ → Type 0} (x y z : Bool) → (x ≡ true → P (b ∷ [])) → (y ≡ true → Q (b ∷ [])) → (z ≡ true → R (b ∷ [])) → (x || y || z) ≡ true
-      → (P / Q / R) (b ∷ [])
+      → (P or Q or R) (b ∷ [])
   or_3 x y z p q r h = ⊎_elim (λ g. ⊎_elim (λ i. this (p i)) (λ i. that (this (q i))) (or_split x y g)) (λ i. that (that (r i))) (or_split (x || y) z h)
 
-  pub is_space_lem : is_space b ≡ true → (Byte 32 / Byte 9 / Byte 10 / Byte 13) (b ∷ [])
+  pub is_space_lem : is_space b ≡ true → (Byte 32 or Byte 9 or Byte 10 or Byte 13) (b ∷ [])
   is_space_lem h =
       ⊎_elim
       (λ g. ⊎_elim
@@ -54,7 +54,7 @@ module _ (b : ℕ) where
   pub is_e_lem : is_e b ≡ true → e (b ∷ [])
   is_e_lem = or_2 (eqb b 101) (eqb b 69) (is_byte 101 b) (is_byte 69 b)
 
-  pub is_sign_lem : is_sign b ≡ true → (minus / plus) (b ∷ [])
+  pub is_sign_lem : is_sign b ≡ true → (minus or plus) (b ∷ [])
   is_sign_lem h = ⊎_elim (λ i. that (is_byte 43 b i)) (λ i. this (is_byte 45 b i)) (or_split (eqb b 43) (eqb b 45) h)
 
   pub is_D : is_d b ≡ true → digit_D (b ∷ [])
@@ -63,10 +63,10 @@ module _ (b : ℕ) where
   pub is_hex_lem : is_hex b ≡ true → HEXDIG (b ∷ [])
   is_hex_lem = or_3 (inside 48 57 b) (inside 65 70 b) (inside 97 102 b) (in_range 48 57 b) (in_range 65 70 b) (in_range 97 102 b)
 
-  pub is_high_lem : is_high b ≡ true → (Range 56 57 / Range 65 66 / Range 97 98) (b ∷ [])
+  pub is_high_lem : is_high b ≡ true → (Range 56 57 or Range 65 66 or Range 97 98) (b ∷ [])
   is_high_lem = or_3 (inside 56 57 b) (inside 65 66 b) (inside 97 98 b) (in_range 56 57 b) (in_range 65 66 b) (in_range 97 98 b)
 
-  pub is_low_lem : is_low b ≡ true → (Range 67 70 / Range 99 102) (b ∷ [])
+  pub is_low_lem : is_low b ≡ true → (Range 67 70 or Range 99 102) (b ∷ [])
   is_low_lem = or_2 (inside 67 70 b) (inside 99 102 b) (in_range 67 70 b) (in_range 99 102 b)
 
   module _ (n : is_d b ≡ false) where

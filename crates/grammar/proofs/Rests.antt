@@ -7,7 +7,7 @@ use lib.ListN.{length}
 use Rattle.json_scan.specs.Json.{Mode, Stack, Bracket, square, brace, is_space, Num, Inside, val, first, done, key0, key, colon, word, num, str, as_key, as_value, plain, esc, h1, h2, h2d, h3, h4, g3, g4, g5, g6, g7, g8, tail}
 use Rattle.json_scan.specs.Json as A
 use Rattle.json_scan.specs.Meets.{closer}
-use Rattle.grammar.specs.Grammar.{Rule, Bytes, Byte, Range, ◌·◌, ◌/◌, that, Optional, Many, Some, ws, DIGIT, minus, plus, int, frac, exp, HEXDIG, low_surrogate, hexchar, short, char, value}
+use Rattle.grammar.specs.Grammar.{Rule, Bytes, Byte, Range, ◌·◌, ◌or◌, Optional, Many, Some, ws, DIGIT, minus, plus, int, frac, exp, HEXDIG, low_surrogate, hexchar, short, char, value}
 use Rattle.grammar.proofs.Bracketed.{item}
 
 -- ---- within a number
@@ -17,7 +17,7 @@ NumRest A.nought = Optional frac · Optional exp
 NumRest A.int = Many DIGIT · Optional frac · Optional exp
 NumRest A.dot = Some DIGIT · Optional exp
 NumRest A.frac = Many DIGIT · Optional exp
-NumRest A.e = Optional (minus / plus) · Some DIGIT
+NumRest A.e = Optional (minus or plus) · Some DIGIT
 NumRest A.sign = Some DIGIT
 NumRest A.exp = Many DIGIT
 
@@ -37,10 +37,10 @@ Tail lo hi (suc n) = Range lo hi · Tail 128 191 n
 
 abbrev pub StrRest : Inside → Rule
 StrRest plain = Chars
-StrRest esc = (short / Byte 117 · hexchar) · Chars
+StrRest esc = (short or Byte 117 · hexchar) · Chars
 StrRest h1 = hexchar · Chars
 StrRest h2 = (HEXDIG · HEXDIG · HEXDIG) · Chars
-StrRest h2d = (Range 48 55 · HEXDIG · HEXDIG / ((Range 56 57 / Range 65 66 / Range 97 98) · HEXDIG · HEXDIG) · Pair) · Chars
+StrRest h2d = (Range 48 55 · HEXDIG · HEXDIG or ((Range 56 57 or Range 65 66 or Range 97 98) · HEXDIG · HEXDIG) · Pair) · Chars
 StrRest h3 = (HEXDIG · HEXDIG) · Chars
 StrRest h4 = HEXDIG · Chars
 StrRest g3 = ((HEXDIG · HEXDIG) · Pair) · Chars
@@ -48,7 +48,7 @@ StrRest g4 = (HEXDIG · Pair) · Chars
 StrRest g5 = Pair · Chars
 StrRest g6 = (Byte 117 · low_surrogate) · Chars
 StrRest g7 = low_surrogate · Chars
-StrRest g8 = ((Range 67 70 / Range 99 102) · HEXDIG · HEXDIG) · Chars
+StrRest g8 = ((Range 67 70 or Range 99 102) · HEXDIG · HEXDIG) · Chars
 StrRest (tail lo hi n) = Tail lo hi n · Chars
 
 -- ---- outside of both, where brackets may nest as deep as the limit
@@ -69,7 +69,7 @@ module _ (limit : ℕ) where
 
   -- what may follow an opening bracket, and a key
   abbrev pub Opened : Bracket → Stack → Rule
-  Opened x k = ws · (Byte (closer x) · After k / Item x k · After (x ∷ k))
+  Opened x k = ws · (Byte (closer x) · After k or Item x k · After (x ∷ k))
 
   abbrev pub Keyed : Stack → Rule
   Keyed k = ws · Byte 58 · ws · Held (brace ∷ k) · After (brace ∷ k)

@@ -5,7 +5,7 @@ use Prim.Native.Nat.{ℕ, suc, ◌≤◌, ◌<◌}
 use native.Mathlib.Omega.{arith}
 use borrow.Author.Tests.{ne_eqb, lt-ltb, le-ltb}
 use Rattle.json_scan.specs.Json.{Mode, Stack, go, step, is_space, is_hex, is_d, is_high, inside, one, text, wide, Place, closed, str, plain, esc, h1, h2, h2d, h3, h4, g3, g4, g5, g7, g8, tail, Inside}
-use Rattle.grammar.specs.Grammar.{Range, ◌·◌, ◌/◌, ws, UTF8_tail, UTF8_2, UTF8_3, UTF8_4, HEXDIG, non_surrogate, high_surrogate, low_surrogate, hexchar, unescaped, short, char, string}
+use Rattle.grammar.specs.Grammar.{Range, ◌·◌, ◌or◌, ws, UTF8_tail, UTF8_2, UTF8_3, UTF8_4, HEXDIG, non_surrogate, high_surrogate, low_surrogate, hexchar, unescaped, short, char, string}
 use Rattle.grammar.proofs.Takes.{Takes, take_byte, take_range, take_alt, take_join, take_many}
 use Rattle.grammar.proofs.Classes.{inside_true, inside_above, hex_1, hex_2, hex_3, high_1, high_2, high_3, low_1, low_2, no_D}
 
@@ -46,7 +46,7 @@ module _ {Too : Type 0} where
     unfolding text
     take_h2 = take_join (hex_in h2 h3 (λ b. refl)) take_h3
 
-    take_g8 : Takes Too ((Range 67 70 / Range 99 102) · HEXDIG · HEXDIG) (str w g8) k (str w plain) k
+    take_g8 : Takes Too ((Range 67 70 or Range 99 102) · HEXDIG · HEXDIG) (str w g8) k (str w plain) k
     unfolding text
     take_g8 =
         take_join

@@ -5,7 +5,7 @@ use mathlib.Core.List.{List, ◌∷◌, ◌++◌, append_assoc}
 use Prim.Native.Nat.{ℕ, ◌≤◌}
 use Rattle.answer.specs.declared.refusal.Why.TheVariants.{NestedTooDeep}
 use Rattle.json_scan.specs.Json.{Mode, Stack, Move, go, step}
-use Rattle.grammar.specs.Grammar.{bytes, Byte, Range, within, ◌·◌, join, ◌/◌, this, that, Optional, absent, present, Many, none, more}
+use Rattle.grammar.specs.Grammar.{bytes, Byte, Range, within, ◌·◌, join, ◌or◌, this, that, Optional, absent, present, Many, none, more}
 use Rattle.grammar.proofs.Endings.{Ending, refused, ending, going}
 
 module _ (Too : Type 0) where
@@ -41,10 +41,10 @@ module _ {Too : Type 0} where
         on : {s : List ℕ} → Range lo hi s → (u : List ℕ) → Like Too (ending m k (s ++ u)) (ending m' k' u)
         on (within {b} l g) u = inl (stepped m k b u (h b l g))
 
-    pub take_alt : {P Q : List ℕ → Type 0} → Takes Too P m k m' k' → Takes Too Q m k m' k' → Takes Too (P / Q) m k m' k'
+    pub take_alt : {P Q : List ℕ → Type 0} → Takes Too P m k m' k' → Takes Too Q m k m' k' → Takes Too (P or Q) m k m' k'
     take_alt {P} {Q} p q = record { took = λ s d u. on d u }
       where
-        on : {s : List ℕ} → (P / Q) s → (u : List ℕ) → Like Too (ending m k (s ++ u)) (ending m' k' u)
+        on : {s : List ℕ} → (P or Q) s → (u : List ℕ) → Like Too (ending m k (s ++ u)) (ending m' k' u)
         on (this d) u = p.took _ d u
         on (that d) u = q.took _ d u
 

@@ -19,15 +19,15 @@ pub data Range (lo hi : ℕ) : List ℕ → Type 0 where
   within : {b : ℕ} → lo ≤ b → b ≤ hi → Range lo hi (b ∷ [])
 
 infixr 40 ◌·◌
-infixr 30 ◌/◌
+infixr 30 ◌or◌
 -- P Q
 pub data ◌·◌ (P Q : List ℕ → Type 0) : List ℕ → Type 0 where
   join : {s t : List ℕ} → P s → Q t → (P · Q) (s ++ t)
 
 -- P / Q
-pub data ◌/◌ (P Q : List ℕ → Type 0) : List ℕ → Type 0 where
-  this : {s : List ℕ} → P s → (P / Q) s
-  that : {s : List ℕ} → Q s → (P / Q) s
+pub data ◌or◌ (P Q : List ℕ → Type 0) : List ℕ → Type 0 where
+  this : {s : List ℕ} → P s → (P or Q) s
+  that : {s : List ℕ} → Q s → (P or Q) s
 
 -- [ P ]
 pub data Optional (P : List ℕ → Type 0) : List ℕ → Type 0 where
@@ -45,7 +45,7 @@ Some P = P · Many P
 
 -- ---- RFC 8259, section 2: white space and structural characters
 abbrev pub ws : Rule
-ws = Many (Byte 0x20 / Byte 0x09 / Byte 0x0A / Byte 0x0D)
+ws = Many (Byte 0x20 or Byte 0x09 or Byte 0x0A or Byte 0x0D)
 
 abbrev pub begin_array : Rule
 begin_array = ws · Byte 0x5B · ws
@@ -82,19 +82,19 @@ abbrev pub digit1_9 : Rule
 digit1_9 = Range 0x31 0x39
 
 abbrev pub e : Rule
-e = Byte 0x65 / Byte 0x45
+e = Byte 0x65 or Byte 0x45
 
 abbrev pub zero : Rule
 zero = Byte 0x30
 
 abbrev pub int : Rule
-int = zero / digit1_9 · Many DIGIT
+int = zero or digit1_9 · Many DIGIT
 
 abbrev pub frac : Rule
 frac = decimal_point · Some DIGIT
 
 abbrev pub exp : Rule
-exp = e · Optional (minus / plus) · Some DIGIT
+exp = e · Optional (minus or plus) · Some DIGIT
 
 abbrev pub number : Rule
 number = Optional minus · int · Optional frac · Optional exp
@@ -109,40 +109,40 @@ UTF8_2 = Range 0xC2 0xDF · UTF8_tail
 abbrev pub UTF8_3 : Rule
 UTF8_3 =
     Byte 0xE0 · Range 0xA0 0xBF · UTF8_tail
-    / Range 0xE1 0xEC · UTF8_tail · UTF8_tail
-    / Byte 0xED · Range 0x80 0x9F · UTF8_tail
-    / Range 0xEE 0xEF · UTF8_tail · UTF8_tail
+    or Range 0xE1 0xEC · UTF8_tail · UTF8_tail
+    or Byte 0xED · Range 0x80 0x9F · UTF8_tail
+    or Range 0xEE 0xEF · UTF8_tail · UTF8_tail
 
 abbrev pub UTF8_4 : Rule
 UTF8_4 =
     Byte 0xF0 · Range 0x90 0xBF · UTF8_tail · UTF8_tail
-    / Range 0xF1 0xF3 · UTF8_tail · UTF8_tail · UTF8_tail
-    / Byte 0xF4 · Range 0x80 0x8F · UTF8_tail · UTF8_tail
+    or Range 0xF1 0xF3 · UTF8_tail · UTF8_tail · UTF8_tail
+    or Byte 0xF4 · Range 0x80 0x8F · UTF8_tail · UTF8_tail
 
 -- ---- the digits of a \u: RFC 8259 has 4HEXDIG; 01 wants a surrogate to be half of a pair, and RFC 9535, section 2.3.1.1, has the rules for that
 abbrev pub HEXDIG : Rule
-HEXDIG = DIGIT / Range 0x41 0x46 / Range 0x61 0x66
+HEXDIG = DIGIT or Range 0x41 0x46 or Range 0x61 0x66
 
 -- D, and the other digits
 abbrev pub digit_D : Rule
-digit_D = Byte 0x44 / Byte 0x64
+digit_D = Byte 0x44 or Byte 0x64
 
 abbrev pub digit_not_D : Rule
-digit_not_D = DIGIT / Range 0x41 0x43 / Range 0x45 0x46 / Range 0x61 0x63 / Range 0x65 0x66
+digit_not_D = DIGIT or Range 0x41 0x43 or Range 0x45 0x46 or Range 0x61 0x63 or Range 0x65 0x66
 
 abbrev pub non_surrogate : Rule
-non_surrogate = digit_not_D · HEXDIG · HEXDIG · HEXDIG / digit_D · Range 0x30 0x37 · HEXDIG · HEXDIG
+non_surrogate = digit_not_D · HEXDIG · HEXDIG · HEXDIG or digit_D · Range 0x30 0x37 · HEXDIG · HEXDIG
 
 -- D8 to DB
 abbrev pub high_surrogate : Rule
-high_surrogate = digit_D · (Range 0x38 0x39 / Range 0x41 0x42 / Range 0x61 0x62) · HEXDIG · HEXDIG
+high_surrogate = digit_D · (Range 0x38 0x39 or Range 0x41 0x42 or Range 0x61 0x62) · HEXDIG · HEXDIG
 
 -- DC to DF
 abbrev pub low_surrogate : Rule
-low_surrogate = digit_D · (Range 0x43 0x46 / Range 0x63 0x66) · HEXDIG · HEXDIG
+low_surrogate = digit_D · (Range 0x43 0x46 or Range 0x63 0x66) · HEXDIG · HEXDIG
 
 abbrev pub hexchar : Rule
-hexchar = non_surrogate / high_surrogate · Byte 0x5C · Byte 0x75 · low_surrogate
+hexchar = non_surrogate or high_surrogate · Byte 0x5C · Byte 0x75 · low_surrogate
 
 -- ---- RFC 8259, section 7: strings
 abbrev pub quotation_mark : Rule
@@ -153,14 +153,14 @@ escape = Byte 0x5C
 
 -- %x20-21 / %x23-5B / %x5D-10FFFF, in UTF-8
 abbrev pub unescaped : Rule
-unescaped = Range 0x20 0x21 / Range 0x23 0x5B / Range 0x5D 0x7F / UTF8_2 / UTF8_3 / UTF8_4
+unescaped = Range 0x20 0x21 or Range 0x23 0x5B or Range 0x5D 0x7F or UTF8_2 or UTF8_3 or UTF8_4
 
 -- " \ / b f n r t
 abbrev pub short : Rule
-short = Byte 0x22 / Byte 0x5C / Byte 0x2F / Byte 0x62 / Byte 0x66 / Byte 0x6E / Byte 0x72 / Byte 0x74
+short = Byte 0x22 or Byte 0x5C or Byte 0x2F or Byte 0x62 or Byte 0x66 or Byte 0x6E or Byte 0x72 or Byte 0x74
 
 abbrev pub char : Rule
-char = unescaped / escape · (short / Byte 0x75 · hexchar)
+char = unescaped or escape · (short or Byte 0x75 · hexchar)
 
 abbrev pub string : Rule
 string = quotation_mark · Many char · quotation_mark
@@ -187,8 +187,8 @@ array v = begin_array · Optional (v · Many (value_separator · v)) · end_arra
 
 -- the values whose brackets nest at most n deep
 unfoldable pub value : ℕ → Rule
-value ℕ.zero = false / null / true / number / string
-value (suc n) = false / null / true / object (value n) / array (value n) / number / string
+value ℕ.zero = false or null or true or number or string
+value (suc n) = false or null or true or object (value n) or array (value n) or number or string
 
 -- ---- section 2: texts whose brackets nest at most n deep
 abbrev pub JSON_text : ℕ → Rule

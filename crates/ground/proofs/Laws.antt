@@ -9,7 +9,7 @@ use native.Mathlib.Numerals.{add-one}
 use native.Mathlib.Omega.{arith}
 use lib.Dec.{eqb}
 use lib.ListN.{length, take, drop, get_or, set, length-append, length-take, length-drop, replicate, get_or-eq_default}
-use lib.Seq.{sets, sets-eq, drop-append-add, length-sets, take_at, drop_at, drop-drop, take-append_seam, take-length, take-add, drop-cons, set_out}
+use lib.Seq.{sets-eq, drop-append-add, length-sets, take_at, drop_at, drop-drop, take-append_seam, take-length, take-add, drop-cons, set_out}
 use borrow.Author.Tests.{eq-eqb, eqb-true}
 use Rattle.ground.specs.Bytes.{byte_at, part, store, same, all_zero}
 

@@ -1,5 +1,5 @@
 // Strings.
-ghost use Rattle.std.specs.Prelude.{◌≡◌, ◌<◌, get_or, length};
+ghost use Rattle.std.specs.Prelude.{◌≡◌, ◌≢◌, ◌<◌, get_or, length};
 ghost use Rattle.json_scan.specs.Json.{str, plain, Place, closed, is_unescaped};
 ghost use Rattle.json_scan.specs.Meets.{Passes, Reads};
 
@@ -24,7 +24,9 @@ pub(crate) fn unescaped(text: &[u8], from: usize) -> usize
 
 // One character or escape of a string, whose first byte is b, and no quote.
 pub(crate) fn piece(text: &[u8], at: usize, b: u8) -> Step
-    requires* { ⌜ at < length text.now ⌝ ∗ (⌜ b ≡ get_or text.now at 0 ⌝ ∗ ⌜ (b ≡ 34 → ⊥) ⌝) }
+    requires within { at < length text.now }
+    requires first { b ≡ get_or text.now at 0 }
+    requires no_quote { b ≢ 34 }
     ensures { (w : Place) → Reads text.now at (str w plain) (str w plain) result }
 {
     if b < 32 {

@@ -29,8 +29,8 @@ pub(crate) fn three_more(text: &[u8], at: usize, lo: u8, hi: u8) -> Step
 
 // A character of more than one byte, whose first is b.
 pub(crate) fn wide_char(text: &[u8], at: usize, b: u8) -> Step
-    requires fact_1 { at < length text.now }
-    requires fact_2 { b ≡ get_or text.now at 0 }
+    requires within { at < length text.now }
+    requires first { b ≡ get_or text.now at 0 }
     ensures { (w : Place) → Wide w text.now at b result }
 {
     if inside(0xc2, 0xdf, b) {

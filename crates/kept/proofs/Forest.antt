@@ -31,11 +31,15 @@ pub chain_append : {e m : ℕ} {xs ys : List Row} → e ≤ m → Chain e m xs �
 chain_append h end d = chain_fit d (omega arith) h
 chain_append h (link l u c) d = link l u (chain_append (omega arith) c d)
 
-chain_climbs : (d : ℕ) {rs : List Row} → Chain 1 (d + 1) rs → climbs d rs ≡ true
+chain_climbs_to : (d : ℕ) {m : ℕ} {rs : List Row} → Chain 1 m rs → m ≡ d + 1 → climbs d rs ≡ true
 unfolding climbs
-chain_climbs d end = refl
-chain_climbs d (link {r = r} {rs = rs} l u c) =
-    rw (le-leb 1 r.depth l, le-leb r.depth (d + 1) u) (chain_climbs r.depth c)
+chain_climbs_to d end e = refl
+chain_climbs_to d (link {r = r} {rs = rs} l u c) e =
+    let u' : r.depth ≤ d + 1 = omega (arith, u, e) in
+    rw (le-leb 1 r.depth l, le-leb r.depth (d + 1) u') (chain_climbs_to r.depth c refl)
+
+chain_climbs : (d : ℕ) {rs : List Row} → Chain 1 (d + 1) rs → climbs d rs ≡ true
+chain_climbs d c = chain_climbs_to d c refl
 
 -- ---- what stands under a row
 

@@ -10,7 +10,7 @@ use native.Mathlib.Decide.{dec_lt}
 use lib.Dec.{eqb}
 use lib.ListN.{length, take, drop, length-append, length-drop}
 use lib.Seq.{take-append_seam}
-use borrow.Author.Tests.{eq-eqb, eqb-true, le-leb, lt-leb}
+use borrow.Author.Tests.{eqb-true, le-leb, lt-leb}
 use Rattle.name.specs.Name.{every, is_empty, is_one_of, is_within, is_letter, is_digit, is_first, is_later, is_simple, dot, joined, parts, is_dotted, starts_with_dot, is_name, is_namespace, has_dot, full_name, last_of, last_part, namespace_part, is_reserved}
 use Rattle.ground.specs.Bytes.{same, store}
 use Rattle.ground.proofs.Laws.{length_store, store_fits}

@@ -9,9 +9,8 @@ use lib.IntN.{ℤ}
 use lib.Arith.{bin_ind, digits_mod}
 use lib.Dec.{eqb}
 use lib.Pow.{split}
-use lib.ListN.{get_or}
 use lib.Bits.{bit_xor, differ, xor_step, xor_comm, xor_zero_r, xor_shr, xor_shifted, shifted_half, shifted_even}
-use Rattle.rabin.specs.Rabin.{bits_of, signed_of, empty, bit_step, bit_steps, entry_of, byte_bits, byte_step, rabin_from, rabin_of}
+use Rattle.rabin.specs.Rabin.{bits_of, empty, bit_step, bit_steps, entry_of, byte_bits, byte_step, rabin_from, rabin_of}
 
 -- ---- the fingerprint of a ++ b is that of b from the state after a
 

@@ -1,3 +1,2 @@
 mod MemoryLaws
 mod PlaceLaws
-mod SignLaws

@@ -1,9 +1,6 @@
 // The calls of the library, and their answers.
-use crate::memory::{fill, fill_list, first};
-use crate::report::{
-    put_answer, put_last, put_list, put_ok, put_refusal_list, put_refusal_with, put_what,
-};
-use crate::signs::signed_of;
+use crate::memory::{fill, first};
+use crate::report::{put_answer, put_last, put_ok, put_refusal_with, put_what};
 use answer::{Refusal, Why};
 use canonical::{Print, Written};
 use commands::Call;
@@ -14,7 +11,6 @@ use row::read::{declarations, rows_before, rows_of};
 use script::answers::{put_refusal, put_rows, put_spaced};
 use script::output::{Output, put, put_signed};
 use set::Naming;
-use summary::{Offsets, Place};
 
 // The full name, or where it is empty what the call says that tells why.
 fn name(stdout: &mut Output, mem: &[u8], place: usize, row: usize, out: &mut [u8]) -> usize {
@@ -100,88 +96,6 @@ fn scan(stdout: &mut Output, text: &[u8], out: &mut [u8]) -> usize {
     }
 }
 
-fn summary_into(
-    stdout: &mut Output,
-    mem: &[u8],
-    bytes: &[u8],
-    list: &mut [usize],
-    out: &mut [u8],
-) -> usize {
-    fill_list(list, 170);
-    match summary::summary(mem, bytes, list) {
-        Offsets::Refused(r) => put_refusal_list(stdout, out, r, list),
-        Offsets::Given(place, n) => {
-            let a = put(stdout, out, 0, b"ok");
-            let b = put_spaced(stdout, out, a, place as u64);
-            let c = put_spaced(stdout, out, b, n as u64);
-            put_list(stdout, out, c, list)
-        }
-    }
-}
-
-fn summary_of(
-    stdout: &mut Output,
-    mem: &[u8],
-    room: usize,
-    bytes: &[u8],
-    list: &mut [usize],
-    out: &mut [u8],
-) -> usize {
-    if list.len() < room {
-        return put_what(stdout, out);
-    }
-    summary_into(stdout, mem, bytes, &mut list[0..room], out)
-}
-
-// The place of a fingerprint, which has eight bytes, lowest first.
-fn find(stdout: &mut Output, mem: &[u8], bytes: &[u8], out: &mut [u8]) -> usize {
-    if bytes.len() != 8 {
-        return put_what(stdout, out);
-    }
-    match summary::find(mem, signed_of(bytes)) {
-        Place::Refused(r) => put_refusal(stdout, out, 0, r),
-        Place::At(place) => {
-            let a = put(stdout, out, 0, b"ok");
-            let b = put_spaced(stdout, out, a, place as u64);
-            put(stdout, out, b, b"\n")
-        }
-    }
-}
-
-fn datum_into(
-    stdout: &mut Output,
-    mem: &[u8],
-    place: usize,
-    bytes: &[u8],
-    list: &mut [usize],
-    out: &mut [u8],
-) -> usize {
-    fill_list(list, 170);
-    match summary::datum(mem, place, bytes, list) {
-        Offsets::Refused(r) => put_refusal_list(stdout, out, r, list),
-        Offsets::Given(_, n) => {
-            let a = put(stdout, out, 0, b"ok");
-            let b = put_spaced(stdout, out, a, n as u64);
-            put_list(stdout, out, b, list)
-        }
-    }
-}
-
-fn datum_of(
-    stdout: &mut Output,
-    mem: &[u8],
-    place: usize,
-    room: usize,
-    bytes: &[u8],
-    list: &mut [usize],
-    out: &mut [u8],
-) -> usize {
-    if list.len() < room {
-        return put_what(stdout, out);
-    }
-    datum_into(stdout, mem, place, bytes, &mut list[0..room], out)
-}
-
 fn digest(stdout: &mut Output, mem: &[u8], out: &mut [u8]) -> usize {
     let bytes = Rabin::new().update(mem).bytes();
     let at = put(stdout, out, 0, b"digest");
@@ -195,7 +109,6 @@ pub(crate) fn answer(
     text: &[u8],
     mem: &mut [u8],
     buffer: &mut [u8],
-    list: &mut [usize],
     out: &mut [u8],
 ) -> usize {
     match call {
@@ -208,17 +121,6 @@ pub(crate) fn answer(
         Call::Fingerprint(place) => fingerprint(stdout, mem, place, out),
         Call::Rows(place) => rows(stdout, mem, place, out),
         Call::Scan(n) => scan(stdout, first(text, n), out),
-        Call::Summary(room, n) => summary_of(stdout, mem, room, first(text, n), list, out),
-        Call::Find(n) => find(stdout, mem, first(text, n), out),
-        Call::Datum(place, room, n) => datum_of(
-            stdout,
-            mem,
-            place,
-            room,
-            first(text, n),
-            list,
-            out,
-        ),
         Call::Digest => digest(stdout, mem, out),
     }
 }

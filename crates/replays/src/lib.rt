@@ -4,7 +4,6 @@
 mod calls;
 mod memory;
 mod report;
-mod signs;
 mod turns;
 
 pub use turns::run;

@@ -8,26 +8,12 @@ use row::Layout;
 // What is there to lend: more than a set takes.
 pub(crate) const MEMORY: usize = Layout::LENGTH + 64;
 
-// What is there to lend for offsets: more than any summary gives.
-pub(crate) const NUMBERS: usize = 8192;
-
 pub(crate) fn fill(mem: &mut [u8], byte: u8)
     ensures { mem.new ≡ replicate (length mem.old) byte }
 {
     let mut i = 0;
     while i < mem.len() {
         mem[i] = byte;
-        i += 1;
-    }
-}
-
-// Sets every number of a list.
-pub(crate) fn fill_list(list: &mut [usize], n: usize)
-    ensures { list.new ≡ replicate (length list.old) n }
-{
-    let mut i = 0;
-    while i < list.len() {
-        list[i] = n;
         i += 1;
     }
 }

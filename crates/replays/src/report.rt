@@ -33,15 +33,6 @@ pub(crate) fn put_answer(stdout: &mut Output, out: &mut [u8], answer: Answer) ->
     }
 }
 
-// A refusal, whose line goes on.
-fn put_refused(stdout: &mut Output, out: &mut [u8], r: Refusal) -> usize {
-    let why = r.why;
-    let a = put(stdout, out, 0, b"refused");
-    let b = put_spaced(stdout, out, a, why.number() as u64);
-    let c = put_spaced(stdout, out, b, r.place as u64);
-    put_spaced(stdout, out, c, r.at as u64)
-}
-
 // A refusal, and the caller's buffer afterwards.
 pub(crate) fn put_refusal_with(
     stdout: &mut Output,
@@ -49,29 +40,10 @@ pub(crate) fn put_refusal_with(
     r: Refusal,
     bytes: &[u8],
 ) -> usize {
-    let at = put_refused(stdout, out, r);
-    put_last(stdout, out, at, bytes)
-}
-
-// Numbers, a space before each, and the line's end.
-pub(crate) fn put_list(stdout: &mut Output, out: &mut [u8], at: usize, list: &[usize]) -> usize {
-    let mut end = at;
-    let mut i = 0;
-    while i < list.len() {
-        let n = list[i];
-        end = put_spaced(stdout, out, end, n as u64);
-        i += 1;
-    }
-    put(stdout, out, end, b"\n")
-}
-
-// A refusal, and the caller's list afterwards.
-pub(crate) fn put_refusal_list(
-    stdout: &mut Output,
-    out: &mut [u8],
-    r: Refusal,
-    list: &[usize],
-) -> usize {
-    let at = put_refused(stdout, out, r);
-    put_list(stdout, out, at, list)
+    let why = r.why;
+    let a = put(stdout, out, 0, b"refused");
+    let b = put_spaced(stdout, out, a, why.number() as u64);
+    let c = put_spaced(stdout, out, b, r.place as u64);
+    let d = put_spaced(stdout, out, c, r.at as u64);
+    put_last(stdout, out, d, bytes)
 }

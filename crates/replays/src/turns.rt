@@ -3,7 +3,7 @@ ghost use Rattle.std.specs.Prelude.{◌≤◌, length};
 ghost use Rattle.row.specs.Layout.{layout_length};
 
 use crate::calls::answer;
-use crate::memory::{MEMORY, NUMBERS, fill, first, poke};
+use crate::memory::{MEMORY, fill, first, poke};
 use crate::report::{put_ok, put_what};
 use commands::{Command, command_of};
 use row::Layout;
@@ -27,7 +27,6 @@ fn obey(
     memory: &mut [u8],
     lent: usize,
     buffer: &mut [u8],
-    list: &mut [usize],
     out: &mut [u8],
 ) -> usize
     requires { lent ≤ length memory.old }
@@ -42,7 +41,7 @@ fn obey(
             let done = poke(memory, at, first(text, n));
             put_done(stdout, done, out)
         }
-        Command::Ask(call) => answer(stdout, call, text, &mut memory[0..lent], buffer, list, out),
+        Command::Ask(call) => answer(stdout, call, text, &mut memory[0..lent], buffer, out),
         Command::Unknown => put_what(stdout, out),
     }
 }
@@ -70,7 +69,6 @@ fn replay(
     text: &mut [u8],
     memory: &mut [u8],
     buffer: &mut [u8],
-    list: &mut [usize],
     out: &mut [u8],
 ) -> io::Result<()>
     requires { layout_length ≤ length memory.old }
@@ -88,7 +86,7 @@ fn replay(
         let cut = line.cut;
         let command = command_of(&input[from..to], cut, text);
         lent = lent_after(command, lent, memory.len());
-        let end = obey(stdout, command, text, memory, lent, buffer, list, out);
+        let end = obey(stdout, command, text, memory, lent, buffer, out);
         flush(stdout, out, end)?;
         turns -= 1;
     }
@@ -102,7 +100,6 @@ pub fn run(stdin: Stdin, stdout: Stdout) -> io::Result<()> {
     let mut text = [0u8; 65536];
     let mut memory = [0u8; MEMORY];
     let mut buffer = [0u8; 131072];
-    let mut list = [0usize; NUMBERS];
     let mut out = [0u8; 65536];
     replay(
         stdin,
@@ -111,7 +108,6 @@ pub fn run(stdin: Stdin, stdout: Stdout) -> io::Result<()> {
         &mut text,
         &mut memory,
         &mut buffer,
-        &mut list,
         &mut out,
     )
 }

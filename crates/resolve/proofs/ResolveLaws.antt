@@ -58,7 +58,7 @@ module _ (m : List ℕ) (n i : ℕ) (name : List ℕ) (x : List Row) (inv : x �
 
     pub definition_more : b ≡ false → x ≡ definition_in name (rows_from m (n - (i + 1)) (i + 1))
     unfolding definition_in
-    definition_more h = inv ∙ rw (rows_next m i n l, ← e, ← f, h)
+    definition_more h = inv ∙ rw (rows_next m i n l, ← e, ← f, h) (rw e)
 
   pub definition_end : n ≤ i → rows_from m (n - i) i ≡ x
   unfolding definition_in

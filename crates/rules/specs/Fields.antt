@@ -1,6 +1,6 @@
 -- Field names in order: refused if equal to an earlier field's name or alias; an alias equal to an earlier name is let through.
 -- Assumes nothing.
-use Rattle.std.specs.Prelude.{ℕ, Bool, not, cond, List, [], ◌∷◌, ◌++◌, map}
+use Rattle.std.specs.Prelude.{ℕ, not, cond, List, [], ◌∷◌, ◌++◌, map}
 use Rattle.answer.specs.declared.refusal.Why.TheVariants.{FieldNameTaken}
 use Rattle.name.specs.Name.{is_one_of}
 use Rattle.view.specs.Values.{shape_at}

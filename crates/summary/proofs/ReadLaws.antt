@@ -1,12 +1,12 @@
 -- The returns of `read`: what comes of a walk.
 -- Assumes nothing.
 use mathlib.Core.Path.{◌≡◌, refl, sym, ap, ap₂, ◌∙◌}
-use mathlib.Core.Bool.{true, false}
+use mathlib.Core.Bool.{true}
 use mathlib.Core.List.{List, [], ◌∷◌, ◌++◌}
-use Prim.Native.Nat.{ℕ, suc, ◌+◌, ◌-◌, ◌<◌, ◌≤◌}
+use Prim.Native.Nat.{ℕ, ◌+◌, ◌-◌, ◌<◌, ◌≤◌}
 use native.Mathlib.Numerals.{add-one}
 use native.Mathlib.Omega.{arith}
-use lib.ListN.{length, take, drop, set, length-append, length-set}
+use lib.ListN.{length, take, set, length-append, length-set}
 use lib.Seq.{take-suc-set}
 use borrow.Author.Tests.{lt-ltb, le-ltb, le-leb, lt-leb}
 use Rattle.answer.specs.declared.refusal.Why.TheVariants.{NoRoom, BytesLeftOver}
@@ -16,10 +16,10 @@ use Rattle.answer.specs.Answers.{accepted, of_refusal}
 use Rattle.answer.specs.Places.{placed}
 use Rattle.ground.specs.Bytes.{store}
 use Rattle.row.specs.Rows.{Row}
-use Rattle.row.specs.Sets.{flat, decode, count_in, rows_from}
+use Rattle.row.specs.Sets.{decode, count_in, rows_from}
 use Rattle.row.specs.Memory.{rows_before}
 use Rattle.formed.specs.WellFormed.{well_formed}
-use Rattle.walk.specs.Walk.{Outcome, went, stopped, walked, steps}
+use Rattle.walk.specs.Walk.{Outcome, stopped, walked, steps}
 use Rattle.walk.proofs.Laws.{Went}
 use Rattle.summary.specs.Summary.{Reading, offsets, refusal, walked_over, datum_in, in_room}
 use Rattle.summary.specs.Calls.{reading_of, list_after}

@@ -3,7 +3,7 @@
 use mathlib.Core.Path.{◌≡◌, refl, sym, ap, ap₂, ◌∙◌}
 use mathlib.Core.Bool.{Bool, true, false, cond, ◌&&◌}
 use mathlib.Core.List.{List, [], ◌∷◌, ◌++◌}
-use Prim.Native.Nat.{ℕ, ◌+◌, ◌<◌, ◌≤◌}
+use Prim.Native.Nat.{ℕ, ◌≤◌}
 use native.Mathlib.Omega.{arith}
 use lib.Dec.{eqb, leb, ltb}
 use lib.ListN.{length, get_or, take}
@@ -11,11 +11,11 @@ use borrow.Author.Tests.{eqb-true, eq-eqb, leb-true, le-leb, ltb-false}
 use Rattle.answer.specs.declared.refusal.Why.TheVariants.{NoRoom, MarkerWrong, FingerprintUnknown, CutShort, BytesLeftOver}
 use Rattle.answer.specs.declared.refusal.Refusal.{Refusal}
 use Rattle.ground.specs.Bytes.{part}
-use Rattle.ground.proofs.Laws.{never, and_true}
+use Rattle.ground.proofs.Laws.{and_true}
 use Rattle.row.specs.Rows.{Row}
 use Rattle.row.specs.Sets.{flat}
 use Rattle.canonical.specs.Places.{place_with}
-use Rattle.walk.specs.Walk.{Stand, Outcome, went, stopped, walked}
+use Rattle.walk.specs.Walk.{Stand, Outcome, went, stopped}
 use Rattle.walk.proofs.Longer.{walk_inside}
 use Rattle.summary.specs.Summary.{Reading, offsets, refused, refusal, walked_over, datum_in, in_room, marker_at, on_place, summary_in}
 

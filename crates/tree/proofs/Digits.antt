@@ -5,7 +5,7 @@ use mathlib.Core.List.{List, [], ◌∷◌, ◌++◌}
 use Prim.Native.Nat.{ℕ, ◌+◌, ◌-◌, ◌*◌, ◌≤◌, ◌<◌}
 use native.Mathlib.Omega.{arith}
 use borrow.Author.Tests.{le-leb, lt-leb, le-ltb}
-use Rattle.grammar.specs.Grammar.{Range, within, bytes, join, ◌/◌, this, that, HEXDIG, digit_D, digit_not_D, non_surrogate, high_surrogate, low_surrogate}
+use Rattle.grammar.specs.Grammar.{Range, within, bytes, join, ◌or◌, this, that, HEXDIG, digit_D, digit_not_D, non_surrogate, high_surrogate, low_surrogate}
 use Rattle.view.specs.Strings.{hex_of}
 use Rattle.tree.specs.Characters.{digit, hexadecimal}
 
@@ -61,12 +61,12 @@ not_D (that (that (that (that (within {b} l g))))) = lower b (omega arith) g (om
 below_8 : {s : List ℕ} → Range 0x30 0x37 s → Hex (λ n. n ≤ 7) s
 below_8 (within {b} l g) = decimal b l (omega arith) (omega arith)
 
-high_2 : {s : List ℕ} → (Range 0x38 0x39 / Range 0x41 0x42 / Range 0x61 0x62) s → Hex (λ n. (8 ≤ n) × (n ≤ 11)) s
+high_2 : {s : List ℕ} → (Range 0x38 0x39 or Range 0x41 0x42 or Range 0x61 0x62) s → Hex (λ n. (8 ≤ n) × (n ≤ 11)) s
 high_2 (this (within {b} l g)) = decimal b (omega arith) g (omega arith)
 high_2 (that (this (within {b} l g))) = upper b l (omega arith) (omega arith)
 high_2 (that (that (within {b} l g))) = lower b l (omega arith) (omega arith)
 
-low_2 : {s : List ℕ} → (Range 0x43 0x46 / Range 0x63 0x66) s → Hex (λ n. (12 ≤ n) × (n ≤ 15)) s
+low_2 : {s : List ℕ} → (Range 0x43 0x46 or Range 0x63 0x66) s → Hex (λ n. (12 ≤ n) × (n ≤ 15)) s
 low_2 (this (within {b} l g)) = upper b (omega arith) g (omega arith)
 low_2 (that (within {b} l g)) = lower b (omega arith) g (omega arith)
 

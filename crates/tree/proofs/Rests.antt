@@ -8,7 +8,7 @@ use lib.ListN.{length, length-append}
 use borrow.Author.Tests.{ne_eqb}
 use Rattle.view.specs.Ends.{to_rest, mode_after, depth_after, at_rest}
 use Rattle.viewed.proofs.Blocks.{open_still}
-use Rattle.grammar.specs.Grammar.{Bytes, bytes, Byte, Range, within, ◌·◌, join, ◌/◌, this, that, Optional, absent, present, Many, none, more, ws, DIGIT, int, number, string, char, unescaped, short, hexchar, HEXDIG, non_surrogate, high_surrogate, low_surrogate, UTF8_tail, UTF8_2, UTF8_3, UTF8_4, value_separator, member, value}
+use Rattle.grammar.specs.Grammar.{Bytes, bytes, Byte, Range, within, ◌·◌, join, ◌or◌, this, that, Optional, absent, present, Many, none, more, ws, DIGIT, int, number, string, char, unescaped, short, hexchar, HEXDIG, non_surrogate, high_surrogate, low_surrogate, UTF8_tail, UTF8_2, UTF8_3, UTF8_4, value_separator, member, value}
 
 -- over the bytes of a rule the mode and the number of open brackets go from one pair to another, and do not come to rest
 pub record Runs (P : List ℕ → Type 0) (m d m' d' : ℕ) : Type 0 where
@@ -32,10 +32,10 @@ module _ {m d m' d' : ℕ} where
       on : {s : List ℕ} → Range lo hi s → (u : List ℕ) → to_rest m d (s ++ u) ≡ length s + to_rest m' d' u
       on (within {b} l g) u = let z = h b l g in one_byte m d m' d' b u z.0 z.1 n
 
-  pub run_alt : {P Q : List ℕ → Type 0} → Runs P m d m' d' → Runs Q m d m' d' → Runs (P / Q) m d m' d'
+  pub run_alt : {P Q : List ℕ → Type 0} → Runs P m d m' d' → Runs Q m d m' d' → Runs (P or Q) m d m' d'
   run_alt {P} {Q} x y = record { ran = λ s c u. on c u }
     where
-      on : {s : List ℕ} → (P / Q) s → (u : List ℕ) → to_rest m d (s ++ u) ≡ length s + to_rest m' d' u
+      on : {s : List ℕ} → (P or Q) s → (u : List ℕ) → to_rest m d (s ++ u) ≡ length s + to_rest m' d' u
       on (this c) u = x.ran _ c u
       on (that c) u = y.ran _ c u
 
@@ -188,7 +188,7 @@ module _ (d : ℕ) where
   run_hex : Runs HEXDIG 1 d 1 d
   run_hex = run_alt (middle 48 57 (omega arith) (omega arith)) (run_alt (middle 65 70 (omega arith) (omega arith)) (upper 97 102 (omega arith)))
 
-  run_D : Runs (Byte 68 / Byte 100) 1 d 1 d
+  run_D : Runs (Byte 68 or Byte 100) 1 d 1 d
   run_D = run_alt (one_of 68 (λ e. omega arith) (λ e. omega arith)) (other 100 (omega arith))
 
   run_low_surrogate : Runs low_surrogate 1 d 1 d

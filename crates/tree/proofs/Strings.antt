@@ -11,7 +11,7 @@ use borrow.Author.Tests.{eq-eqb, ne_eqb, le-ltb}
 use Rattle.view.specs.Strings.{hex_of, unit_at, utf8_of, short_of, Part, part_of, part_at, is_stop, bytes_from, string_at}
 use Rattle.view.proofs.Laws.{bytes_stop, bytes_next}
 use Rattle.viewed.proofs.Values.{byte_here}
-use Rattle.grammar.specs.Grammar.{bytes, Byte, Range, within, ◌·◌, join, ◌/◌, this, that, Many, none, more, UTF8_tail, UTF8_2, UTF8_3, UTF8_4, unescaped, hexchar, short, char, string}
+use Rattle.grammar.specs.Grammar.{bytes, Byte, Range, within, ◌·◌, join, ◌or◌, this, that, Many, none, more, UTF8_tail, UTF8_2, UTF8_3, UTF8_4, unescaped, hexchar, short, char, string}
 use Rattle.tree.specs.Utf8.{utf8}
 use Rattle.tree.specs.Characters.{letter, hexadecimal, paired, unicode, character, characters, string_of}
 use Rattle.tree.proofs.Standing.{past}
@@ -50,10 +50,10 @@ copy_byte x l n m = record { copies = λ t p s d u e. on t p d u e }
     on t p bytes u e = plain_seen t p x u e l n m
 
 module _ {P Q : List ℕ → Type 0} (c : Copies P) (k : Copies Q) where
-  copy_alt : Copies (P / Q)
+  copy_alt : Copies (P or Q)
   copy_alt = record { copies = λ t p s d u e. on t p d u e }
     where
-      on : (t : List ℕ) (p : ℕ) {s : List ℕ} → (P / Q) s → (u : List ℕ) → drop p t ≡ s ++ u → bytes_from t p ≡ s ++ bytes_from t (p + length s)
+      on : (t : List ℕ) (p : ℕ) {s : List ℕ} → (P or Q) s → (u : List ℕ) → drop p t ≡ s ++ u → bytes_from t p ≡ s ++ bytes_from t (p + length s)
       on t p (this d) u e = c.copies t p _ d u e
       on t p (that d) u e = k.copies t p _ d u e
 

@@ -16,7 +16,7 @@ use Rattle.view.specs.Ends.{is_token, is_delimiter, is_block, literal_end, end_o
 use Rattle.view.specs.Size.{fitting, size_from, size_of}
 use Rattle.view.specs.declared.sizes.Size.TheVariants.{NoSize}
 use Rattle.viewed.proofs.Values.{byte_here}
-use Rattle.grammar.specs.Grammar.{bytes, Byte, Range, within, ◌·◌, join, ◌/◌, this, that, Optional, absent, present, Many, none, more, DIGIT, int, number}
+use Rattle.grammar.specs.Grammar.{bytes, Byte, Range, within, ◌·◌, join, ◌or◌, this, that, Optional, absent, present, Many, none, more, DIGIT, int, number}
 use Rattle.tree.specs.Tree.{decimal, size_in}
 use Rattle.tree.proofs.Standing.{Stops}
 
@@ -46,10 +46,10 @@ token_range lo hi x y = record { took = λ s c u. on c u }
         one_token b u (no_delimiter b (λ e. omega arith) (λ e. omega arith) (λ e. omega arith) (λ e. omega arith) (λ e. omega arith) (λ e. omega arith) (λ e. omega arith))
 
 module _ {P Q : List ℕ → Type 0} (x : Tokens P) (y : Tokens Q) where
-  token_alt : Tokens (P / Q)
+  token_alt : Tokens (P or Q)
   token_alt = record { took = λ s c u. on c u }
     where
-      on : {s : List ℕ} → (P / Q) s → (u : List ℕ) → count is_token (s ++ u) ≡ length s + count is_token u
+      on : {s : List ℕ} → (P or Q) s → (u : List ℕ) → count is_token (s ++ u) ≡ length s + count is_token u
       on (this c) u = x.took _ c u
       on (that c) u = y.took _ c u
 

@@ -1,7 +1,7 @@
 -- What a string of the grammar says: the bytes of its characters in UTF-8, read off its derivation, rule by rule.
 -- Assumes nothing: these are definitions.
 use Rattle.std.specs.Prelude.{ℕ, ◌+◌, ◌-◌, ◌*◌, cond, ◌≡◌, List, [], ◌∷◌, ◌++◌, leb}
-use Rattle.grammar.specs.Grammar.{Rule, Range, join, ◌/◌, this, that, Many, none, more, UTF8_2, UTF8_3, UTF8_4, hexchar, short, char, string}
+use Rattle.grammar.specs.Grammar.{Rule, Range, join, ◌or◌, this, that, Many, none, more, UTF8_2, UTF8_3, UTF8_4, hexchar, short, char, string}
 use Rattle.tree.specs.Utf8.{utf8, number_of}
 
 -- ---- RFC 8259, section 7: what follows a backslash
@@ -54,7 +54,7 @@ abbrev pub UTF8_1 : Rule
 UTF8_1 = Range 0x00 0x7F
 
 abbrev pub UTF8_char : Rule
-UTF8_char = UTF8_1 / UTF8_2 / UTF8_3 / UTF8_4
+UTF8_char = UTF8_1 or UTF8_2 or UTF8_3 or UTF8_4
 
 abbrev pub UTF8_octets : Rule
 UTF8_octets = Many UTF8_char

@@ -16,7 +16,7 @@ use Rattle.view.specs.Ends.{end_of}
 use Rattle.view.specs.Elements.{first_element, next_element, unroll, elements_at, elements}
 use Rattle.view.specs.Strings.{unit_at, utf8_of, short_of, part_of, part_at, is_stop, string_from, bytes_from, string_at}
 use Rattle.view.specs.Members.{value_of, is_member, first_key, key_after, keys_at, Member, member_of, members_at, last_under, member}
-use Rattle.view.proofs.Visits.{first_ahead, next_ahead, first_key_ahead, next_key_ahead, member_value, value_behind}
+use Rattle.view.proofs.Visits.{first_ahead, next_ahead, first_key_ahead, next_key_ahead, member_value}
 use Rattle.view.proofs.Undone.{unit_small}
 pub use Rattle.view.proofs.Places.{in_text, value_in_text, skip_ahead, skip_within, end_ahead, end_within}
 pub use Rattle.view.proofs.Visits.{elements_next, elements_done, elements_few, left_start, left_done, left_next, keys_next, keys_done}

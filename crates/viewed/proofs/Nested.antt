@@ -11,7 +11,7 @@ use lib.ListN.{length, drop}
 use lib.Seq.{drop-drop}
 use borrow.Author.Tests.{eqb-true}
 use Rattle.answer.specs.declared.refusal.Why.TheVariants.{NestedTooDeep}
-use Rattle.json_scan.specs.Json.{Mode, Stack, Move, Bracket, go, die, deepest, is_space, square, brace, as_key, plain, val, first, done, key0, key, colon, str, opens, begin, next, one, spaced, step, run}
+use Rattle.json_scan.specs.Json.{Mode, Stack, Move, Bracket, go, die, deepest, is_space, square, brace, as_key, plain, val, first, done, key0, key, colon, str, opens, begin, one, spaced, step, run}
 use Rattle.json_scan.specs.Meets.{run_at}
 use Rattle.json_scan.specs.declared.verdict.Scan.TheVariants.{Whole}
 use Rattle.ground.specs.Bytes.{byte_at}

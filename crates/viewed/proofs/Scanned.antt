@@ -15,7 +15,7 @@ use lib.Seq.{drop-cons, drop-drop, get_or-drop}
 use borrow.Author.Tests.{eqb-true, leb-true, le-leb}
 use Rattle.answer.specs.declared.refusal.Why.{Why}
 use Rattle.answer.specs.declared.refusal.Why.TheVariants.{NotJson, NestedTooDeep}
-use Rattle.json_scan.specs.Json.{Mode, Stack, Move, Bracket, go, die, deepest, inside, is_space, is_digit, square, brace, as_value, plain, minus, nought, int, val, first, done, key0, word, num, str, opens, word_of, simple, begin, one, step, whole, run, verdict}
+use Rattle.json_scan.specs.Json.{Mode, Stack, Move, Bracket, go, die, deepest, inside, is_space, is_digit, square, brace, as_value, plain, minus, nought, int, val, first, done, key0, word, num, str, opens, word_of, simple, begin, step, whole, run, verdict}
 use Rattle.json_scan.specs.Meets.{run_at}
 use Rattle.json_scan.specs.declared.verdict.Scan.TheVariants.{Whole}
 use Rattle.ground.specs.Bytes.{byte_at}
@@ -23,7 +23,6 @@ use Rattle.ground.proofs.Laws.{and_true, and_intro, byte_at_lem}
 use Rattle.view.specs.declared.shape.Shape.TheVariants.{Text, Number, Object, Array, Word, Nothing}
 use Rattle.view.specs.Values.{count, skip_of, value_start, shape_of, is_value, starts_value}
 use Rattle.view.specs.Ends.{end_of}
-use Rattle.view.specs.Elements.{elements}
 use Rattle.view.proofs.Laws.{skip_within, end_within}
 use Rattle.viewed.proofs.Blocks.{bad, Lives, lives, run_lives, run_step, end_of_lem}
 use Rattle.viewed.proofs.Literals.{gone}

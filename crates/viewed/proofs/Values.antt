@@ -10,7 +10,7 @@ use lib.ListN.{length, drop, get_or}
 use lib.Seq.{drop-drop, get_or-drop}
 use borrow.Author.Tests.{eqb-true}
 use Rattle.answer.specs.declared.refusal.Why.TheVariants.{NotJson, NestedTooDeep}
-use Rattle.json_scan.specs.Json.{Mode, Num, Stack, Move, Bracket, go, die, deepest, inside, is_space, square, brace, as_value, plain, minus, nought, int, val, first, done, key0, key, colon, word, num, str, opens, word_of, digit1, simple, one, step, whole, run}
+use Rattle.json_scan.specs.Json.{Mode, Num, Stack, Move, Bracket, go, die, deepest, inside, is_space, square, brace, as_value, plain, minus, nought, int, val, first, done, key0, key, colon, word, num, str, opens, word_of, digit1, simple, one, step, run}
 use Rattle.json_scan.specs.Meets.{run_at}
 use Rattle.json_scan.specs.declared.verdict.Scan.TheVariants.{Whole}
 use Rattle.ground.specs.Bytes.{byte_at}

@@ -1,14 +1,14 @@
 -- What the datum at a row is, by its kind: one law for each way out of the functions that visit a row, and the whole walk.
 -- Assumes nothing.
 use mathlib.Core.Path.{◌≡◌, refl, sym, ap, subst, ◌∙◌}
-use mathlib.Core.Bool.{Bool, true, false}
+use mathlib.Core.Bool.{true, false}
 use mathlib.Core.List.{List, [], ◌∷◌, ◌++◌}
-use Prim.Native.Nat.{ℕ, zero, suc, ◌+◌, ◌-◌, ◌*◌, ◌/◌, ◌<◌, ◌≤◌}
+use Prim.Native.Nat.{ℕ, ◌+◌, ◌-◌, ◌*◌, ◌<◌, ◌≤◌}
 use native.Mathlib.Numerals.{add-one}
 use native.Mathlib.Omega.{arith}
 use native.Mathlib.Decide.{dec_lt}
 use lib.Dec.{ltb}
-use lib.ListN.{length, get_or, set, take, replicate, length-set, length-take, length-replicate}
+use lib.ListN.{length, get_or, set, take, length-set, length-take}
 use lib.Seq.{take-suc-set}
 use borrow.Author.Tests.{lt-ltb, le-ltb}
 use Rattle.ground.proofs.Laws.{never}
@@ -24,8 +24,8 @@ use Rattle.resolve.specs.Kinds.{is_kind}
 use Rattle.resolve.specs.Resolve.{definition_in}
 use Rattle.resolve.proofs.MemoryLaws.{rows_next, rows_end}
 use Rattle.walk.specs.Parts.{parts_at, parts_of, first}
-use Rattle.walk.specs.Walk.{Stand, Outcome, went, stopped, Item, datum, blocks, pick, and_then, moved_to, giving, spent, chosen, in_turn, kind_datum, one_item, visit, steps, walked}
-use Rattle.walk.specs.Steps.{type_at, parts_from, parts_behind, FirstPart, Found, Follows, reading, leaf_of, is_leaf, Reads, choosing, Chooses, pushed, none, here_of, standing, going, outcome, after, pending, Bounded, Listed, to_do, Turned, on, stop, on_datum, on_blocks, before, frames_of, Gave, gave, refused}
+use Rattle.walk.specs.Walk.{Stand, Outcome, went, stopped, Item, datum, blocks, and_then, moved_to, giving, spent, in_turn, kind_datum, one_item, steps, walked}
+use Rattle.walk.specs.Steps.{type_at, parts_from, parts_behind, FirstPart, Found, Follows, reading, leaf_of, is_leaf, Reads, choosing, Chooses, pushed, none, here_of, standing, going, outcome, after, pending, Bounded, Listed, to_do, Turned, on, stop, on_datum, on_blocks, before, Gave, gave, refused}
 use Rattle.walk.specs.declared.states.Here.{Here}
 use Rattle.walk.specs.declared.states.Read.{Read}
 use Rattle.walk.specs.declared.states.Read.TheVariants.{To, Bad}
@@ -33,7 +33,6 @@ use Rattle.walk.specs.declared.states.Choice.{Choice}
 use Rattle.walk.specs.declared.states.Choice.TheVariants.{Part, None}
 use Rattle.walk.specs.declared.states.Turn.{Turn}
 use Rattle.walk.specs.declared.states.Turn.TheVariants.{On, Stop}
-use Rattle.walk.specs.declared.states.Walked.{Walked}
 use Rattle.walk.specs.declared.states.Walked.TheVariants.{End, Stopped}
 use Rattle.walk.proofs.Fuel.{visit_none, visit_step}
 use Rattle.walk.proofs.FrameLaws.{pick_true, pick_false, length_pushed, after_went, after_stopped, after_then, outcome_end, outcome_parts}

@@ -1,13 +1,13 @@
 -- Frames in an array are a list; and what comes of them, one after the other.
 -- Assumes nothing.
 use mathlib.Core.Path.{◌≡◌, refl, sym, ap, ◌∙◌}
-use mathlib.Core.Bool.{Bool, true, false, cond, ◌||◌}
-use mathlib.Core.List.{List, [], ◌∷◌}
+use mathlib.Core.Bool.{Bool, true, false, ◌||◌}
+use mathlib.Core.List.{List, ◌∷◌}
 use Prim.Native.Nat.{ℕ, zero, suc, ◌+◌, ◌-◌, ◌*◌, ◌%◌, ◌<◌, ◌≤◌}
-use native.Mathlib.Numerals.{sub-one, add-one}
+use native.Mathlib.Numerals.{sub-one}
 use native.Mathlib.Omega.{arith}
-use lib.Dec.{eqb, ltb}
-use lib.ListN.{length, get_or, set, take, length-set}
+use lib.Dec.{eqb}
+use lib.ListN.{length, get_or, set, length-set}
 use lib.Seq.{get_or-set_same, get_or-set_other}
 use borrow.Author.Tests.{eq-eqb, ne_eqb, lt-ltb, le-ltb}
 use Rattle.answer.specs.declared.refusal.Why.{Why}
@@ -15,11 +15,10 @@ use Rattle.answer.specs.declared.refusal.Why.TheVariants.{BlockSizeWrong}
 use Rattle.binary.specs.Numbers.{long_at}
 use Rattle.row.specs.Rows.{Row}
 use Rattle.row.specs.Layout.{row_limit}
-use Rattle.row.specs.Sets.{rows_from}
 use Rattle.walk.specs.Parts.{is_map}
 use Rattle.walk.specs.declared.states.Read.{Read}
 use Rattle.walk.specs.declared.states.Read.TheVariants.{To, Bad}
-use Rattle.walk.specs.Walk.{Stand, Outcome, went, stopped, Item, datum, blocks, pick, and_then, times, moved_to, is_size, counted, key, in_turn, entry, plain_block, ended, sized_block, steps}
+use Rattle.walk.specs.Walk.{Stand, Outcome, went, stopped, Item, blocks, pick, and_then, times, moved_to, is_size, counted, key, in_turn, entry, plain_block, ended, sized_block, steps}
 use Rattle.walk.specs.Steps.{type_at, parts_behind, reading, Reads, Frame, parts, entries, is_right, block_end, block_rest, run, frame_of, frames_of, pushed, going, outcome, after}
 
 -- ---- one after the other

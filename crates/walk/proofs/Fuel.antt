@@ -1,25 +1,21 @@
 -- Enough is enough: a visit whose bound is at least the steps that are left is a fixed point of `one_item`.
 -- Assumes nothing.
-use mathlib.Core.Path.{◌≡◌, refl, sym, ap, ◌∙◌}
-use mathlib.Core.Bool.{Bool, true, false, not, ◌&&◌}
+use mathlib.Core.Path.{◌≡◌, refl, ◌∙◌}
+use mathlib.Core.Bool.{Bool, true, false}
 use mathlib.Core.List.{List, [], ◌∷◌}
-use Prim.Native.Nat.{ℕ, zero, suc, ◌+◌, ◌-◌, ◌≤◌}
-use native.Mathlib.Numerals.{sub-one}
+use Prim.Native.Nat.{ℕ, zero, suc, ◌+◌, ◌≤◌}
 use native.Mathlib.Omega.{arith}
-use lib.Dec.{eqb, ltb}
-use lib.ListN.{length, get_or}
 use borrow.Author.Tests.{eq-eqb, ne_eqb}
 use Rattle.answer.specs.declared.refusal.Why.{Why}
 use Rattle.answer.specs.declared.refusal.Why.TheVariants.{TooManySteps}
 use Rattle.ground.proofs.Laws.{never}
-use Rattle.binary.specs.Numbers.{int_at, long_at, is_negative, absolute}
+use Rattle.binary.specs.Numbers.{absolute}
 use Rattle.binary.specs.declared.number.Number.{Number}
 use Rattle.binary.specs.declared.number.Number.TheVariants.{Is, Cut, Wrong}
 use Rattle.row.specs.Rows.{Row}
 use Rattle.row.specs.declared.kind.Kind.{Kind}
 use Rattle.row.specs.declared.kind.Kind.TheVariants.{Null, Boolean, Int, Long, Float, Double, Bytes, String, Reference, Array, Map, Union, Record, Enum, Fixed, Field, Symbol, Alias, FieldAlias}
-use Rattle.walk.specs.Parts.{parts_of}
-use Rattle.walk.specs.Walk.{Stand, Outcome, went, stopped, Item, datum, blocks, pick, and_then, times, moved_to, giving, spent, passed, on_number, on_int, on_long, flag, counted, chosen, key, ended, in_turn, entry, plain_block, sized_block, block, header, kind_datum, one_item, visit}
+use Rattle.walk.specs.Walk.{Stand, Outcome, went, stopped, Item, datum, blocks, pick, and_then, times, moved_to, giving, spent, passed, on_number, flag, counted, chosen, key, ended, in_turn, entry, plain_block, sized_block, block, header, kind_datum, one_item, visit}
 
 -- two outcomes are one, and leave at most s steps
 data Alike (s : ℕ) : Outcome → Outcome → Type 0 where

@@ -321,7 +321,7 @@ one_of_has [] x h = absurd h
 one_of_has (y ∷ []) x h = rw (eq-eqb x y h)
 one_of_has (y ∷ z ∷ ys) x h = ⊎_elim (λ e. rw (eq-eqb x y e)) (λ r. or_true (eqb x y) (has (z ∷ ys) x) (one_of_has (z ∷ ys) x r)) h
 
-abbrev others : List ℕ
+abbrev pub others : List ℕ
 others = 0 ∷ 8 ∷ 9 ∷ 10 ∷ 11 ∷ 12 ∷ 13 ∷ 15 ∷ 16 ∷ 17 ∷ 18 ∷ []
 
 leaf_other : (bytes : List ℕ) (size : ℕ) (h : Stand) (k : Kind) → has others (tag_of the_type k) ≡ true → went h ≡ leaf_of bytes k size h
@@ -353,7 +353,7 @@ leaf_none bytes at l size k o =
     (λ h q. ap (λ (p : ℕ). went (moved_to p h)) (sym q) ∙ leaf_other bytes size h k (one_of_has others (tag_of the_type k) o))
 
 -- the kinds that no other arm of a visit takes: null, the other primitives, fixed, symbols and aliases
-abbrev plains : List ℕ
+abbrev pub plains : List ℕ
 plains = 0 ∷ 1 ∷ 2 ∷ 3 ∷ 4 ∷ 5 ∷ 6 ∷ 7 ∷ 14 ∷ 16 ∷ 17 ∷ 18 ∷ []
 
 plain_told : (k : Kind) → has plains (tag_of the_type k) ≡ true → is_leaf k ≡ true

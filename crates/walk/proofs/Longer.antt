@@ -1,17 +1,17 @@
 -- A walk stays inside the bytes, and what it accepts it accepts alike where more bytes stand behind.
 -- Assumes nothing.
-use mathlib.Core.Path.{◌≡◌, refl, sym, ap, ◌∙◌}
-use mathlib.Core.Bool.{Bool, true, false, not, ◌&&◌}
+use mathlib.Core.Path.{◌≡◌, refl, ap, ◌∙◌}
+use mathlib.Core.Bool.{Bool, true, false}
 use mathlib.Core.List.{List, [], ◌∷◌, ◌++◌}
-use Prim.Native.Nat.{ℕ, zero, suc, ◌+◌, ◌<◌, ◌≤◌}
+use Prim.Native.Nat.{ℕ, zero, suc, ◌+◌, ◌≤◌}
 use native.Mathlib.Omega.{arith}
-use lib.Dec.{eqb, leb, ltb}
-use lib.ListN.{length, get_or, length-append, get_or-append}
+use lib.Dec.{leb}
+use lib.ListN.{length, length-append, get_or-append}
 use borrow.Author.Tests.{le-leb, lt-ltb, leb-true, ltb-true}
 use Rattle.answer.specs.declared.refusal.Why.{Why}
 use Rattle.ground.specs.Bytes.{byte_at}
 use Rattle.ground.proofs.Laws.{never}
-use Rattle.binary.specs.Numbers.{int_at, long_at, is_negative, absolute}
+use Rattle.binary.specs.Numbers.{long_at, absolute}
 use Rattle.binary.specs.declared.number.Number.{Number}
 use Rattle.binary.specs.declared.number.Number.TheVariants.{Is, Cut, Wrong}
 use Rattle.binary.proofs.Laws.{int_inside, long_inside, int_longer, long_longer}

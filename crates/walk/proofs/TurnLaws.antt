@@ -1,17 +1,17 @@
 -- One law for each way out of the functions that take turns: what comes of it all stays.
 -- Assumes nothing.
 use mathlib.Core.Path.{◌≡◌, refl, sym, ap, subst, ◌∙◌}
-use mathlib.Core.Bool.{Bool, true, false}
+use mathlib.Core.Bool.{true, false}
 use mathlib.Core.List.{List, [], ◌∷◌}
-use Prim.Native.Nat.{ℕ, zero, suc, ◌+◌, ◌-◌, ◌*◌, ◌/◌, ◌%◌, ◌<◌, ◌≤◌}
+use Prim.Native.Nat.{ℕ, ◌+◌, ◌-◌, ◌*◌, ◌%◌, ◌<◌, ◌≤◌}
 use native.Mathlib.Omega.{arith}
 use lib.Dec.{eqb, ltb}
-use lib.ListN.{length, get_or, set, take, length-set}
+use lib.ListN.{length, get_or, set, length-set}
 use borrow.Author.Tests.{eq-eqb, ne_eqb, lt-ltb, le-ltb}
 use Rattle.answer.specs.declared.refusal.Why.{Why}
-use Rattle.answer.specs.declared.refusal.Why.TheVariants.{CutShort, NumberWrong, OutOfRange, TooManySteps, BlockSizeWrong}
+use Rattle.answer.specs.declared.refusal.Why.TheVariants.{CutShort, NumberWrong, TooManySteps, BlockSizeWrong}
 use Rattle.answer.specs.declared.refusal.Fault.{Fault}
-use Rattle.binary.specs.Numbers.{int_at, long_at, is_negative, absolute}
+use Rattle.binary.specs.Numbers.{long_at, is_negative, absolute}
 use Rattle.binary.specs.declared.number.Number.{Number}
 use Rattle.binary.specs.declared.number.Number.TheVariants.{Is, Cut, Wrong}
 use Rattle.binary.proofs.Laws.{long_inside, long_forward}
@@ -20,15 +20,15 @@ use Rattle.row.specs.Layout.{row_limit}
 use Rattle.row.specs.Sets.{rows_from}
 use Rattle.row.specs.Memory.{entry_at}
 use Rattle.walk.specs.Parts.{inside}
-use Rattle.walk.specs.Walk.{Stand, Outcome, went, stopped, Item, datum, blocks, pick, and_then, times, moved_to, giving, spent, is_size, on_number, key, ended, in_turn, entry, plain_block, sized_block, block, header, one_item, visit, steps}
-use Rattle.walk.specs.Steps.{type_at, parts_from, parts_behind, FirstPart, reading, Reads, is_right, block_end, block_rest, pushed, none, here_of, standing, going, outcome, after, pending, Bounded, Listed, to_do, Turned, on, stop, on_datum, on_blocks, on_block, before}
+use Rattle.walk.specs.Walk.{Stand, Outcome, went, stopped, datum, blocks, pick, and_then, moved_to, spent, on_number, key, in_turn, entry, block, header, one_item, steps}
+use Rattle.walk.specs.Steps.{type_at, parts_from, parts_behind, FirstPart, reading, Reads, is_right, block_end, block_rest, pushed, none, here_of, standing, going, outcome, after, pending, Bounded, Listed, to_do, Turned, on, stop, on_blocks, on_block, before}
 use Rattle.walk.specs.declared.states.Here.{Here}
 use Rattle.walk.specs.declared.states.Read.{Read}
 use Rattle.walk.specs.declared.states.Read.TheVariants.{To, Bad}
 use Rattle.walk.specs.declared.states.Turn.{Turn}
 use Rattle.walk.specs.declared.states.Turn.TheVariants.{On, Stop}
 use Rattle.walk.proofs.Fuel.{visit_none, visit_step}
-use Rattle.walk.proofs.FrameLaws.{then_then, pick_true, pick_false, length_pushed, after_went, after_stopped, after_then, outcome_end, outcome_entries, outcome_parts, outcome_top_entries, outcome_top_parts, outcome_first, outcome_second, rest_plain, rest_sized, rest_end, rest_more}
+use Rattle.walk.proofs.FrameLaws.{pick_true, pick_false, length_pushed, after_went, after_stopped, after_then, outcome_entries, outcome_top_entries, outcome_top_parts, outcome_first, outcome_second, rest_plain, rest_sized, rest_end, rest_more}
 
 abbrev pub fault_of : Why → ℕ → Fault
 fault_of why at = record { why = why; at = at }

@@ -10,7 +10,6 @@ use Rattle.binary.specs.declared.number.Number.TheVariants.{Is, Cut, Wrong}
 use Rattle.row.specs.Rows.{Row}
 use Rattle.row.specs.declared.kind.Kind.{Kind}
 use Rattle.row.specs.declared.kind.Kind.TheVariants.{Null, Boolean, Int, Long, Float, Double, Bytes, String, Reference, Array, Map, Union, Record, Enum, Fixed, Field, Symbol, Alias, FieldAlias}
-use Rattle.resolve.specs.Kinds.{is_kind}
 use Rattle.resolve.specs.Resolve.{definition_in}
 use Rattle.walk.specs.Parts.{parts_of, first, inside, is_map}
 

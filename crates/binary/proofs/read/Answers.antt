@@ -1,11 +1,11 @@
 -- `binary::read` meets its contract: what is left says the whole, from group to group.
 -- Assumes nothing.
 use Prim.Native.Nat.{◌-◌}
-use mathlib.Core.Logic.{⊎_elim}
 use native.Mathlib.Omega.{arith}
 use Rattle.binary.proofs.Turns.{Held, start, ended, cut_off, fits, last_is, last_wrong, more_wrong, power_fits, sum_fits, turn}
 use borrow.Author.Rules.{rules}
 use Rattle.binary.proofs.read.Goals as goal
+use Rattle.binary.proofs.read.Goals.{then-i-eq9+else-b-gt1, else-i-eq9}
 
 pub loop-i-init : goal.loop-i-init
 loop-i-init c = start _ _ _
@@ -17,13 +17,13 @@ pub returns-then-b-gt1 : goal.returns-then-b-gt1
 returns-then-b-gt1 c = last_wrong c.loop-i.invariant c.loop-i-test.true c.wide-b.ensures.0 (omega arith) c.if-b-lt128.true c.if-i-eq9.true c.if-b-gt1.true
 
 pub overflow_mul-result : goal.overflow_mul-result
-overflow_mul-result c = omega (arith, fits c.loop-i.invariant c.loop-i-test.true c.wide-b.ensures.0 (omega arith) c.if-b-lt128.true c.requires.1 (⊎_elim (λ w e. w.1.left) (λ w e. absurd (w.left e)) c.if-i-eq9.branch))
+overflow_mul-result c = omega (arith, fits c.loop-i.invariant c.loop-i-test.true c.wide-b.ensures.0 (omega arith) c.if-b-lt128.true c.requires.1 (elim c.if-i-eq9.branch [ then-i-eq9+else-b-gt1 w ↦ λ e. w.if-b-gt1.false | else-i-eq9 w ↦ λ e. absurd (w.if-i-eq9.false e) ]))
 
 pub overflow_add-result : goal.overflow_add-result
-overflow_add-result c = omega (arith, fits c.loop-i.invariant c.loop-i-test.true c.wide-b.ensures.0 (omega arith) c.if-b-lt128.true c.requires.1 (⊎_elim (λ w e. w.1.left) (λ w e. absurd (w.left e)) c.if-i-eq9.branch))
+overflow_add-result c = omega (arith, fits c.loop-i.invariant c.loop-i-test.true c.wide-b.ensures.0 (omega arith) c.if-b-lt128.true c.requires.1 (elim c.if-i-eq9.branch [ then-i-eq9+else-b-gt1 w ↦ λ e. w.if-b-gt1.false | else-i-eq9 w ↦ λ e. absurd (w.if-i-eq9.false e) ]))
 
 pub returns-then-b-lt128 : goal.returns-then-b-lt128
-returns-then-b-lt128 c = last_is c.loop-i.invariant c.loop-i-test.true c.wide-b.ensures.0 (omega arith) c.if-b-lt128.true c.requires.1 (⊎_elim (λ w e. w.1.left) (λ w e. absurd (w.left e)) c.if-i-eq9.branch)
+returns-then-b-lt128 c = last_is c.loop-i.invariant c.loop-i-test.true c.wide-b.ensures.0 (omega arith) c.if-b-lt128.true c.requires.1 (elim c.if-i-eq9.branch [ then-i-eq9+else-b-gt1 w ↦ λ e. w.if-b-gt1.false | else-i-eq9 w ↦ λ e. absurd (w.if-i-eq9.false e) ])
 
 pub returns-then-i-eq9-2 : goal.returns-then-i-eq9-2
 returns-then-i-eq9-2 c = more_wrong c.loop-i.invariant c.loop-i-test.true c.wide-b.ensures.0 (omega arith) c.if-b-lt128.false c.requires.1 c.if-i-eq9-2.true

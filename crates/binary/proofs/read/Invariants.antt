@@ -1,7 +1,6 @@
 -- `binary::read` meets its contract: what is left says the whole, from group to group.
 -- Assumes nothing.
 use Prim.Native.Nat.{◌-◌}
-use mathlib.Core.Logic.{⊎_elim}
 use native.Mathlib.Omega.{arith}
 use Rattle.binary.proofs.Turns.{Held, start, ended, cut_off, fits, last_is, last_wrong, more_wrong, power_fits, sum_fits, turn}
 use borrow.Author.Rules.{rules}

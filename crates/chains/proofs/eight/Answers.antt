@@ -2,7 +2,6 @@
 -- Assumes nothing.
 use mathlib.Core.Path.{refl}
 use Rattle.chains.specs.Marks.{eight_at}
-use borrow.Author.Rules.{rules}
 use Rattle.chains.proofs.eight.Goals as goal
 
 pub returns : goal.returns

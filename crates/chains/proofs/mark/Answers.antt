@@ -2,8 +2,7 @@
 -- Assumes nothing.
 use mathlib.Core.Path.{refl}
 use borrow.Author.Tests.{lt-ltb, le-ltb}
-use Rattle.chains.specs.Marks.{spread, mark_of}
-use borrow.Author.Rules.{rules}
+use Rattle.chains.specs.Marks.{mark_of}
 use Rattle.chains.proofs.mark.Goals as goal
 
 pub returns-then-n-lt8 : goal.returns-then-n-lt8

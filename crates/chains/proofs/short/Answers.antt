@@ -1,11 +1,7 @@
 -- `chains::short` meets its contract: the number of what is left, from the number so far on, is the whole number.
 -- Assumes nothing.
-use mathlib.Core.Path.{◌≡◌, refl}
-use Prim.Native.Nat.{◌-◌}
-use lib.ListN.{length, drop}
-use Rattle.chains.specs.Marks.{short_from}
+use mathlib.Core.Path.{refl}
 use Rattle.chains.proofs.Shorts.{short_all, short_more}
-use borrow.Author.Rules.{rules}
 use Rattle.chains.proofs.short.Goals as goal
 
 pub loop-i-init : goal.loop-i-init

@@ -1,11 +1,9 @@
 -- `chains::short` meets its contract: the number of what is left, from the number so far on, is the whole number.
 -- Assumes nothing.
-use mathlib.Core.Path.{◌≡◌, refl}
+use mathlib.Core.Path.{◌≡◌}
 use Prim.Native.Nat.{◌-◌}
 use lib.ListN.{length, drop}
 use Rattle.chains.specs.Marks.{short_from}
-use Rattle.chains.proofs.Shorts.{short_all, short_more}
-use borrow.Author.Rules.{rules}
 use Rattle.chains.proofs.short.Given as goal
 
 abbrev pub invariant-loop-i : goal.invariant-loop-i

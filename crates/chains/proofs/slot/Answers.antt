@@ -2,7 +2,6 @@
 -- Assumes nothing.
 use mathlib.Core.Path.{refl}
 use native.Mathlib.Omega.{arith}
-use borrow.Author.Rules.{rules}
 use Rattle.chains.specs.Chains.{slot_of}
 use Rattle.chains.proofs.slot.Goals as goal
 

@@ -3,7 +3,6 @@
 use mathlib.Core.Path.{refl}
 use native.Mathlib.Omega.{arith}
 use Rattle.chains.specs.Marks.{spread}
-use borrow.Author.Rules.{rules}
 use Rattle.chains.proofs.spread.Goals as goal
 
 pub returns : goal.returns

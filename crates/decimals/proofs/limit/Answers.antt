@@ -2,7 +2,6 @@
 -- Assumes nothing.
 use mathlib.Core.Path.{sym}
 use native.Mathlib.Omega.{arith}
-use borrow.Author.Rules.{rules}
 use Rattle.decimals.specs.Limits.{limits}
 use Rattle.decimals.proofs.Laws.{limit_none, limit_stays, limit_read}
 use Rattle.decimals.proofs.limit.Goals as goal

@@ -10,4 +10,4 @@ use mir.Facts.{to_z-of_z}
 use Rattle.dhokyurai.proofs.dhokyurai_fingerprint.Goals as goal
 
 pub returns : goal.returns
-returns c = let e = c.of_print-n.ensures ∙ ap (λ (p : Numbers × ℤ). p.0) c.fingerprint-p.ensures in (number e, to_z-of_z (sfits_of c.value.type-inv) ∙ c.value.ensures ∙ ap (λ (p : Numbers × ℤ). signed p.1) c.fingerprint-p.ensures, first e, second e)
+returns c = let e = c.of_print-n.ensures ∙ ap (λ (p : Numbers × ℤ). p.0) c.fingerprint-p.ensures in (number e, to_z-of_z (sfits_of c.value.type_inv) ∙ c.value.ensures ∙ ap (λ (p : Numbers × ℤ). signed p.1) c.fingerprint-p.ensures, first e, second e)

@@ -1,6 +1,5 @@
 -- `fits::with_middle` meets its contract: a table of zeros says nothing.
 -- Assumes nothing.
-use borrow.Author.Rules.{rules}
 use native.Mathlib.Omega.{arith}
 use Rattle.fits.proofs.TableLaws.{true_zeros}
 use Rattle.fits.proofs.with_middle.Goals as goal

@@ -1,6 +1,5 @@
 -- `fits::with_tables` meets its contract.
 -- Assumes nothing.
-use borrow.Author.Rules.{rules}
 use native.Mathlib.Omega.{arith}
 use Rattle.fits.proofs.TableLaws.{place_few}
 use Rattle.view.proofs.Laws.{known_none}

@@ -1,6 +1,5 @@
 -- `fits::without_table` meets its contract: an empty table says nothing.
 -- Assumes nothing.
-use borrow.Author.Rules.{rules}
 use native.Mathlib.Omega.{arith}
 use Rattle.fits.proofs.TableLaws.{true_zeros}
 use Rattle.view.proofs.Laws.{known_none}

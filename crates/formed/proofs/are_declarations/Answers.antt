@@ -1,14 +1,7 @@
 -- `formed::are_declarations` meets its contract: the answer for the places that are left is the answer.
 -- Assumes nothing.
-use mathlib.Core.Path.{◌≡◌, sym, ◌∙◌}
-use Prim.Native.Nat.{◌+◌, ◌-◌, ◌≤◌}
-use borrow.Author.Tests.{not-true, not-false}
-use Rattle.name.specs.Name.{every}
-use Rattle.row.specs.Layout.{row_limit}
-use Rattle.row.specs.Sets.{decode}
-use Rattle.resolve.specs.Rules.{is_declaration}
-use Rattle.resolve.specs.Steps.{Sized}
-use Rattle.formed.proofs.DecodeLaws.{rows_left, left, places_start, places_room, places_bad, places_fit, places_more, places_end}
+use mathlib.Core.Path.{sym, ◌∙◌}
+use Rattle.formed.proofs.DecodeLaws.{places_start, places_room, places_bad, places_fit, places_more, places_end}
 use borrow.Author.Rules.{rules}
 use Rattle.formed.proofs.are_declarations.Goals as goal
 
@@ -19,10 +12,10 @@ pub is_declaration_by-requires : goal.is_declaration_by-requires
 is_declaration_by-requires c = (c.requires.0, places_room _ _ _ _ c.loop-place-test.true c.loop-place.invariant.1 _ c.rows_of-rows.ensures.0, c.loop-place.invariant.3)
 
 pub returns-then-not-is_declaration_by : goal.returns-then-not-is_declaration_by
-returns-then-not-is_declaration_by c = places_bad _ _ _ _ c.loop-place-test.true c.loop-place.invariant.1 _ c.rows_of-rows.ensures.0 _ c.loop-place.invariant.2 (sym c.is_declaration_by.ensures.0 ∙ not-true _ c.if-not-is_declaration_by.true-raw)
+returns-then-not-is_declaration_by c = places_bad _ _ _ _ c.loop-place-test.true c.loop-place.invariant.1 _ c.rows_of-rows.ensures.0 _ c.loop-place.invariant.2 (sym c.is_declaration_by.ensures.0 ∙ c.if-not-is_declaration_by.true)
 
 pub loop-place-preserved : goal.loop-place-preserved
-loop-place-preserved c = (search rules, places_fit _ _ _ _ c.loop-place-test.true c.loop-place.invariant.1 _ c.rows_of-rows.ensures.0, places_more _ _ _ _ c.loop-place-test.true c.loop-place.invariant.1 _ c.rows_of-rows.ensures.0 _ c.loop-place.invariant.2 (sym c.is_declaration_by.ensures.0 ∙ not-false _ c.if-not-is_declaration_by.false-raw), c.is_declaration_by.ensures.1)
+loop-place-preserved c = (search rules, places_fit _ _ _ _ c.loop-place-test.true c.loop-place.invariant.1 _ c.rows_of-rows.ensures.0, places_more _ _ _ _ c.loop-place-test.true c.loop-place.invariant.1 _ c.rows_of-rows.ensures.0 _ c.loop-place.invariant.2 (sym c.is_declaration_by.ensures.0 ∙ c.if-not-is_declaration_by.false), c.is_declaration_by.ensures.1)
 
 pub returns : goal.returns
 returns c = places_end _ _ _ _ _ c.loop-place-test.false c.loop-place.invariant.2

@@ -1,15 +1,13 @@
 -- `formed::are_declarations` meets its contract: the answer for the places that are left is the answer.
 -- Assumes nothing.
-use mathlib.Core.Path.{◌≡◌, sym, ◌∙◌}
+use mathlib.Core.Path.{◌≡◌}
 use Prim.Native.Nat.{◌+◌, ◌-◌, ◌≤◌}
-use borrow.Author.Tests.{not-true, not-false}
 use Rattle.name.specs.Name.{every}
 use Rattle.row.specs.Layout.{row_limit}
 use Rattle.row.specs.Sets.{decode}
 use Rattle.resolve.specs.Rules.{is_declaration}
 use Rattle.resolve.specs.Steps.{Sized}
-use Rattle.formed.proofs.DecodeLaws.{rows_left, left, places_start, places_room, places_bad, places_fit, places_more, places_end}
-use borrow.Author.Rules.{rules}
+use Rattle.formed.proofs.DecodeLaws.{rows_left, left}
 use Rattle.formed.proofs.are_declarations.Given as goal
 
 abbrev pub invariant-loop-place : goal.invariant-loop-place

@@ -2,7 +2,6 @@
 -- Assumes nothing.
 use mathlib.Core.Path.{sym, ◌∙◌}
 use Rattle.formed.proofs.DecodeLaws.{fitting_none}
-use borrow.Author.Rules.{rules}
 use Rattle.formed.proofs.defaults_fit.Goals as goal
 
 pub returns-then-has_defaults : goal.returns-then-has_defaults

@@ -1,7 +1,6 @@
 -- `formed::is_resolved` meets its contract.
 -- Assumes nothing.
 use mathlib.Core.Path.{sym, ap, ◌∙◌}
-use borrow.Author.Rules.{rules}
 use Rattle.resolve.specs.Resolve.{is_resolved}
 use Rattle.formed.proofs.DecodeLaws.{resolved_start}
 use Rattle.formed.proofs.is_resolved.Goals as goal

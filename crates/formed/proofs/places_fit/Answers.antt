@@ -1,12 +1,6 @@
 -- `formed::places_fit` meets its contract: the answer for the places that are left is the answer.
 -- Assumes nothing.
-use mathlib.Core.Path.{◌≡◌}
-use mathlib.Core.List.{[]}
-use Prim.Native.Nat.{◌+◌, ◌-◌, ◌≤◌}
-use Rattle.row.specs.Layout.{row_limit}
-use Rattle.row.specs.Sets.{rows_from, decode}
-use Rattle.formed.specs.WellFormed.{defaults_fit}
-use Rattle.formed.proofs.DecodeLaws.{rows_left, left, places_start, places_room, places_fit, fitting_start, fitting_bad, fitting_more, fitting_end}
+use Rattle.formed.proofs.DecodeLaws.{places_start, places_room, places_fit, fitting_start, fitting_bad, fitting_more, fitting_end}
 use borrow.Author.Rules.{rules}
 use Rattle.formed.proofs.places_fit.Goals as goal
 

@@ -6,8 +6,7 @@ use Prim.Native.Nat.{◌+◌, ◌-◌, ◌≤◌}
 use Rattle.row.specs.Layout.{row_limit}
 use Rattle.row.specs.Sets.{rows_from, decode}
 use Rattle.formed.specs.WellFormed.{defaults_fit}
-use Rattle.formed.proofs.DecodeLaws.{rows_left, left, places_start, places_room, places_fit, fitting_start, fitting_bad, fitting_more, fitting_end}
-use borrow.Author.Rules.{rules}
+use Rattle.formed.proofs.DecodeLaws.{rows_left, left}
 use Rattle.formed.proofs.places_fit.Given as goal
 
 abbrev pub invariant-loop-place : goal.invariant-loop-place

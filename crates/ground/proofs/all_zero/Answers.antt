@@ -1,12 +1,7 @@
 -- `ground::all_zero` meets its contract: the largest byte so far is 0, and what is left is zero, where the whole is.
 -- Assumes nothing.
-use mathlib.Core.Path.{◌≡◌, refl}
-use mathlib.Core.Bool.{◌&&◌}
-use Prim.Native.Nat.{◌-◌, ◌≤◌}
+use mathlib.Core.Path.{refl}
 use borrow.Author.Rules.{rules}
-use lib.Dec.{eqb}
-use lib.ListN.{length, drop}
-use Rattle.ground.specs.Bytes.{all_zero}
 use Rattle.ground.proofs.Loops.{zero_turn, zero_end}
 use Rattle.ground.proofs.all_zero.Goals as goal
 

@@ -1,7 +1,6 @@
 -- `ground::byte_at` meets its contract.
 -- Assumes nothing.
 use mathlib.Core.Path.{sym}
-use borrow.Author.Rules.{rules}
 use Rattle.ground.proofs.Laws.{byte_at_lem, byte_past}
 use Rattle.ground.proofs.byte_at.Goals as goal
 

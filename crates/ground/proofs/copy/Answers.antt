@@ -1,11 +1,9 @@
 -- `ground::copy` meets its contract: what is left to store, stored, gives the whole store.
 -- Assumes nothing.
-use mathlib.Core.Path.{◌≡◌, refl}
-use Prim.Native.Nat.{◌+◌, ◌-◌, ◌≤◌}
+use mathlib.Core.Path.{refl}
 use native.Mathlib.Nat.{add-zero}
 use borrow.Author.Rules.{rules}
-use lib.ListN.{length, drop, length-set}
-use Rattle.ground.specs.Bytes.{store}
+use lib.ListN.{length-set}
 use Rattle.ground.proofs.Loops.{copy_turn, copy_end}
 use Rattle.ground.proofs.copy.Goals as goal
 

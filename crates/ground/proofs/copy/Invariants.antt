@@ -1,12 +1,9 @@
 -- `ground::copy` meets its contract: what is left to store, stored, gives the whole store.
 -- Assumes nothing.
-use mathlib.Core.Path.{◌≡◌, refl}
+use mathlib.Core.Path.{◌≡◌}
 use Prim.Native.Nat.{◌+◌, ◌-◌, ◌≤◌}
-use native.Mathlib.Nat.{add-zero}
-use borrow.Author.Rules.{rules}
-use lib.ListN.{length, drop, length-set}
+use lib.ListN.{length, drop}
 use Rattle.ground.specs.Bytes.{store}
-use Rattle.ground.proofs.Loops.{copy_turn, copy_end}
 use Rattle.ground.proofs.copy.Given as goal
 
 abbrev pub invariant-loop-i : goal.invariant-loop-i

@@ -1,6 +1,5 @@
 -- `ground::magnitude` meets its contract.
 -- Assumes nothing.
-use borrow.Author.Rules.{rules}
 use Rattle.ground.proofs.Casts.{negative_casts, negative_size, negative_fits, other_casts}
 use Rattle.ground.proofs.magnitude.Goals as goal
 

@@ -1,13 +1,9 @@
 -- `ground::same` meets its contract: the answer is that for the bytes before those that were compared.
 -- Assumes nothing.
-use mathlib.Core.Path.{◌≡◌, refl, sym}
+use mathlib.Core.Path.{◌≡◌}
 use Prim.Native.Nat.{◌+◌, ◌-◌, ◌≤◌}
-use native.Mathlib.Omega.{arith}
-use borrow.Author.Rules.{rules}
 use lib.ListN.{length, take}
 use Rattle.ground.specs.Bytes.{same}
-use Rattle.ground.proofs.Laws.{same_unlike}
-use Rattle.ground.proofs.Loops.{same_whole, same_differ, same_turn, same_end}
 use Rattle.ground.proofs.same.Given as goal
 
 abbrev pub invariant-loop-back : goal.invariant-loop-back

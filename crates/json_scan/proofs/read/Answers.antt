@@ -1,5 +1,4 @@
--- `json::read` meets its contract. Assumes nothing.
-use borrow.Author.Rules.{rules}
+-- `json_scan::read` meets its contract. Assumes nothing.
 use mathlib.Core.Path.{◌≡◌, refl, sym, ap, ◌∙◌}
 use mathlib.Core.List.{List, []}
 use Prim.Native.Nat.{ℕ}
@@ -9,10 +8,6 @@ use Rattle.json_scan.specs.Json.{verdict, val, done}
 use Rattle.json_scan.specs.Meets.{run_at, on_step}
 use Rattle.json_scan.proofs.Laws.{kill, at_end}
 use Rattle.json_scan.proofs.Items.{done_stays, over}
-use Rattle.json_scan.proofs.read.Reads as reads
-use Rattle.json_scan.proofs.read.Lts as lts
-use Rattle.json_scan.proofs.step.skip.Reads as skip-reads
-use Rattle.json_scan.proofs.value.value.Reads as value-reads
 use Rattle.json_scan.proofs.read.Goals as goal
 
 starts : (t : List ℕ) → verdict t ≡ run_at t val [] 0

@@ -1,7 +1,6 @@
 -- `schema::walk` meets its contract.
 -- Assumes nothing.
 use Rattle.schema.proofs.Nested.{rows_walked}
-use borrow.Author.Rules.{rules}
 use Rattle.schema.proofs.walk.Goals as goal
 
 pub returns : goal.returns

@@ -1,7 +1,6 @@
 -- `seen::enter` meets its contract.
 -- Assumes nothing.
 use native.Mathlib.Omega.{arith}
-use borrow.Author.Rules.{rules}
 use Rattle.seen.proofs.Laws.{free_below}
 use Rattle.seen.proofs.Turns.{enter_marked, enter_free}
 use Rattle.seen.proofs.enter.Goals as goal

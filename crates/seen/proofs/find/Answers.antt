@@ -1,10 +1,6 @@
 -- `seen::find` meets its contract: what is found from a place on is what is found.
 -- Assumes nothing.
-use mathlib.Core.Path.{◌≡◌}
-use Prim.Native.Nat.{◌<◌}
-use Rattle.seen.specs.Seen.{span, from, found_in}
 use Rattle.seen.proofs.Turns.{found_zero, found_start, found_end, found_mark, found_free, found_on}
-use borrow.Author.Rules.{rules}
 use native.Mathlib.Omega.{arith}
 use Rattle.seen.proofs.find.Goals as goal
 

@@ -3,9 +3,6 @@
 use mathlib.Core.Path.{◌≡◌}
 use Prim.Native.Nat.{◌<◌}
 use Rattle.seen.specs.Seen.{span, from, found_in}
-use Rattle.seen.proofs.Turns.{found_zero, found_start, found_end, found_mark, found_free, found_on}
-use borrow.Author.Rules.{rules}
-use native.Mathlib.Omega.{arith}
 use Rattle.seen.proofs.find.Given as goal
 
 abbrev pub invariant-loop-left : goal.invariant-loop-left

@@ -1,10 +1,8 @@
 -- `seen::forget` meets its contract: the table stays as long as it is.
 -- Assumes nothing.
-use mathlib.Core.Path.{◌≡◌, refl}
+use mathlib.Core.Path.{◌≡◌}
 use Prim.Native.Nat.{◌-◌}
-use lib.ListN.{length, length-set}
-use borrow.Author.Rules.{rules}
-use native.Mathlib.Omega.{arith}
+use lib.ListN.{length}
 use Rattle.seen.proofs.forget.Given as goal
 
 abbrev pub invariant-loop-i : goal.invariant-loop-i

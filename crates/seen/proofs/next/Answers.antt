@@ -1,7 +1,6 @@
 -- `seen::next` meets its contract.
 -- Assumes nothing.
 use Rattle.seen.proofs.Laws.{next_fits}
-use borrow.Author.Rules.{rules}
 use native.Mathlib.Omega.{arith}
 use Rattle.seen.proofs.next.Goals as goal
 

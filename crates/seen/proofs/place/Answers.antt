@@ -2,7 +2,6 @@
 -- Assumes nothing.
 use Rattle.seen.specs.Seen.{place_in}
 use Rattle.seen.proofs.Laws.{place_below, place_product}
-use borrow.Author.Rules.{rules}
 use native.Mathlib.Omega.{arith}
 use Rattle.seen.proofs.place.Goals as goal
 

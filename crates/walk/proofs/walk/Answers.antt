@@ -1,12 +1,11 @@
 -- `walk::walk` meets its contract: what comes of it all is kept from turn to turn.
 -- Assumes nothing.
-use mathlib.Core.Path.{refl, sym, ◌∙◌}
+use mathlib.Core.Path.{◌∙◌}
 use Prim.Native.Nat.{ℕ}
 use native.Mathlib.Omega.{arith}
 use lib.ListN.{length-replicate}
-use Rattle.walk.specs.Steps.{to_do}
 use Rattle.walk.proofs.TableLaws.{found_zeros, follows_zeros}
-use Rattle.walk.proofs.DatumLaws.{Held, starts, held_on, held_none, on_turn, stop_turn, gave_stop, gave_end}
+use Rattle.walk.proofs.DatumLaws.{starts, held_on, held_none, on_turn, stop_turn, gave_stop, gave_end}
 use borrow.Author.Rules.{rules}
 use Rattle.walk.proofs.walk.Goals as goal
 

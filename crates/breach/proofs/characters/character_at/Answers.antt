@@ -2,7 +2,6 @@
 -- Assumes nothing.
 use native.Mathlib.Omega.{arith}
 use Rattle.breach.proofs.Letters.{piece_small, piece_few, piece_large}
-use borrow.Author.Rules.{rules}
 use Rattle.breach.proofs.characters.character_at.Goals as goal
 
 pub returns-then-n-eq1 : goal.returns-then-n-eq1

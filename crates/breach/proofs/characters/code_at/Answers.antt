@@ -1,7 +1,6 @@
 -- `breach::characters::code_at` meets its contract.
 -- Assumes nothing.
 use Rattle.breach.proofs.Letters.{code_piece, code_past}
-use borrow.Author.Rules.{rules}
 use Rattle.breach.proofs.characters.code_at.Goals as goal
 
 pub returns-then-at-text : goal.returns-then-at-text

@@ -2,7 +2,6 @@
 -- Assumes nothing.
 use native.Mathlib.Omega.{arith}
 use Rattle.breach.proofs.Letters.{code_one, code_two, code_three, code_four}
-use borrow.Author.Rules.{rules}
 use Rattle.breach.proofs.characters.code_of.Goals as goal
 
 pub returns-then-n-eq1 : goal.returns-then-n-eq1

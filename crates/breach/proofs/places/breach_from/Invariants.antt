@@ -1,17 +1,12 @@
 -- `breach::places::breach_from` meets its contract. The invariant: from here on the rule that is left breaks where the whole does.
 -- Assumes nothing.
-use mathlib.Core.Path.{◌≡◌, refl, sym, ◌∙◌}
+use mathlib.Core.Path.{◌≡◌}
 use mathlib.Core.Bool.{cond}
 use Prim.Native.Nat.{◌-◌}
-use native.Mathlib.Omega.{arith}
 use lib.ListN.{length}
-use borrow.Author.Rules.{rules}
-use borrow.Author.Tests.{not-true, not-false}
 use Rattle.name.specs.Name.{is_simple, is_dotted}
 use Rattle.name.proofs.Bytewise.{keeps}
-use Rattle.view.proofs.Laws.{stop_in}
-use Rattle.breach.proofs.Laws.{breach_end}
-use Rattle.breach.proofs.Turns.{breach, bytewise, turn_broken, turn_on, turn_ahead}
+use Rattle.breach.proofs.Turns.{breach}
 use Rattle.breach.proofs.places.breach_from.Given as goal
 
 abbrev pub invariant-loop-x : goal.invariant-loop-x

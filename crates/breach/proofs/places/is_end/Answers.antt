@@ -2,7 +2,6 @@
 -- Assumes nothing.
 use mathlib.Core.Path.{ap, ◌∙◌}
 use Prim.Native.Nat.{ℕ}
-use borrow.Author.Rules.{rules}
 use Rattle.view.specs.Strings.{is_stop}
 use Rattle.breach.proofs.places.is_end.Goals as goal
 

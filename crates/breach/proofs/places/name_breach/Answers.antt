@@ -6,7 +6,6 @@ use Rattle.view.proofs.Laws.{in_text, stop_in}
 use Rattle.name.specs.Name.{is_name}
 use Rattle.breach.proofs.Laws.{breach_end}
 use Rattle.breach.proofs.Turns.{at_quote, no_quote, behind_dot, no_dot}
-use borrow.Author.Rules.{rules}
 use Rattle.breach.proofs.places.name_breach.Goals as goal
 
 pub returns-then-byte_at-ne34 : goal.returns-then-byte_at-ne34

@@ -5,7 +5,6 @@ use native.Mathlib.Omega.{arith}
 use Rattle.view.proofs.Laws.{in_text}
 use Rattle.name.specs.Name.{is_namespace}
 use Rattle.breach.proofs.Turns.{at_quote, no_quote, joined_namespace}
-use borrow.Author.Rules.{rules}
 use Rattle.breach.proofs.places.namespace_breach.Goals as goal
 
 pub overflow_add-at : goal.overflow_add-at

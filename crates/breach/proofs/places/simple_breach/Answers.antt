@@ -4,7 +4,6 @@ use native.Mathlib.Omega.{arith}
 use Rattle.view.proofs.Laws.{in_text}
 use Rattle.name.specs.Name.{is_simple}
 use Rattle.breach.proofs.Turns.{at_quote, no_quote}
-use borrow.Author.Rules.{rules}
 use Rattle.breach.proofs.places.simple_breach.Goals as goal
 
 pub overflow_add-at : goal.overflow_add-at

@@ -1,7 +1,6 @@
 -- `canonical::calls::write_declaration` meets its contract: the text of the first of its rows.
 -- Assumes nothing.
 use native.Mathlib.Omega.{arith}
-use borrow.Author.Rules.{rules}
 use Rattle.canonical.proofs.CallLaws.{formed_long, place_few, place_rows, place_some, place_text, place_short}
 use Rattle.canonical.proofs.WriteLaws.{wrote_eq}
 use Rattle.canonical.proofs.calls.write_declaration.Goals as goal

@@ -1,11 +1,7 @@
 -- `canonical::decimal::digits_length` meets its contract: the digits that are counted, and those that are left.
 -- Assumes nothing.
-use mathlib.Core.Path.{◌≡◌}
-use Prim.Native.Nat.{◌+◌, ◌^◌, ◌<◌}
 use native.Mathlib.Omega.{arith}
-use lib.ListN.{length}
 use borrow.Author.Rules.{rules}
-use Rattle.canonical.specs.Decimal.{decimal}
 use Rattle.canonical.proofs.DecimalLaws.{count_fits, count_turn, count_end}
 use Rattle.canonical.proofs.decimal.digits_length.Goals as goal
 

@@ -2,11 +2,8 @@
 -- Assumes nothing.
 use mathlib.Core.Path.{◌≡◌}
 use Prim.Native.Nat.{◌+◌, ◌^◌, ◌<◌}
-use native.Mathlib.Omega.{arith}
 use lib.ListN.{length}
-use borrow.Author.Rules.{rules}
 use Rattle.canonical.specs.Decimal.{decimal}
-use Rattle.canonical.proofs.DecimalLaws.{count_fits, count_turn, count_end}
 use Rattle.canonical.proofs.decimal.digits_length.Given as goal
 
 abbrev pub invariant-loop-rest : goal.invariant-loop-rest

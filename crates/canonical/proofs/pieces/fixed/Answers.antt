@@ -1,7 +1,6 @@
 -- `canonical::pieces::fixed` meets its contract: the name, then the size into the part that is left.
 -- Assumes nothing.
 use native.Mathlib.Omega.{arith}
-use borrow.Author.Rules.{rules}
 use Rattle.canonical.proofs.PieceLaws.{fixed_text, fixed_fits}
 use Rattle.canonical.proofs.WriteLaws.{wrote_then, wrote_eq, wrote_lent}
 use Rattle.canonical.proofs.pieces.fixed.Goals as goal

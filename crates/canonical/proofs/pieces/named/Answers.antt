@@ -1,6 +1,5 @@
 -- `canonical::pieces::named` meets its contract: four texts one behind the other.
 -- Assumes nothing.
-use borrow.Author.Rules.{rules}
 use Rattle.canonical.proofs.WriteLaws.{wrote_then}
 use Rattle.canonical.proofs.pieces.named.Goals as goal
 

@@ -1,13 +1,12 @@
 -- `canonical::pieces::opening` meets its contract: each arm writes its kind's text.
 -- Assumes nothing.
-use borrow.Author.Rules.{rules}
 use Rattle.canonical.specs.Pieces.{opening}
 use Rattle.canonical.proofs.PieceLaws.{opening_told, opening_quoted, opening_none, opening_word}
 use Rattle.canonical.proofs.WriteLaws.{wrote_none, wrote_eq}
 use Rattle.canonical.proofs.pieces.opening.Goals as goal
 
 pub returns-in-Reference : goal.returns-in-Reference
-returns-in-Reference c = wrote_eq (opening_quoted _ _ _ c.in-Reference.keys1) c.quoted.ensures
+returns-in-Reference c = wrote_eq (opening_quoted _ _ _ c.in-Reference.in-Reference-own.keys1) c.quoted.ensures
 
 pub returns-in-Array : goal.returns-in-Array
 unfolding opening
@@ -38,7 +37,7 @@ unfolding opening
 returns-in-Field c = wrote_eq (opening_told _ _ _ _ c.in-Field.is) c.named-in-Field.ensures
 
 pub returns-in-Alias : goal.returns-in-Alias
-returns-in-Alias c = wrote_eq (opening_none _ _ _ c.in-Alias.keys9) (wrote_none _ _)
+returns-in-Alias c = wrote_eq (opening_none _ _ _ c.in-Alias.in-Alias-own.keys9) (wrote_none _ _)
 
 pub returns-in_default : goal.returns-in_default
-returns-in_default c = wrote_eq (opening_word _ _ _ c.in_default.keys10) c.word.ensures
+returns-in_default c = wrote_eq (opening_word _ _ _ c.in_default.in_default-own.keys10) c.word.ensures

@@ -1,6 +1,5 @@
 -- `canonical::pieces::quoted` meets its contract: three texts one behind the other.
 -- Assumes nothing.
-use borrow.Author.Rules.{rules}
 use Rattle.canonical.proofs.WriteLaws.{wrote_then}
 use Rattle.canonical.proofs.pieces.quoted.Goals as goal
 

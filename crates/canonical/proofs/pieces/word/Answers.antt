@@ -2,10 +2,13 @@
 -- Assumes nothing.
 use mathlib.Core.Path.{sym, ap}
 use borrow.Author.Rules.{rules}
+use borrow.Enum.Refused.{opened}
+use denote.Enum.Declared.{tag_of}
+use Rattle.row.specs.contracts.kind.Kind.{the_type}
 use Rattle.resolve.specs.Kinds.{is_kind, is_primitive}
 use Rattle.canonical.specs.Walk.{word_of}
 use Rattle.canonical.specs.Pieces.{opening}
-use Rattle.canonical.proofs.PieceLaws.{word_none}
+use Rattle.canonical.proofs.PieceLaws.{word_none, wordless}
 use Rattle.canonical.proofs.WriteLaws.{wrote_none, wrote_eq}
 use Rattle.canonical.proofs.pieces.word.Goals as goal
 
@@ -42,4 +45,4 @@ unfolding word_of is_primitive is_kind opening
 returns-in-String c = wrote_eq (sym (ap word_of c.in-String.is)) c.put-in-String.ensures
 
 pub returns-in_default : goal.returns-in_default
-returns-in_default c = wrote_eq (word_none _ c.in_default.keys9) (wrote_none _ _)
+returns-in_default c = wrote_eq (word_none _ (opened {ks = wordless} {x = tag_of the_type c.args.kind} (search rules))) (wrote_none _ _)

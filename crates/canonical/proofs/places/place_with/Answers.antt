@@ -1,13 +1,10 @@
 -- `canonical::places::place_with` meets its contract: the places before the one at hand, and the search from it on.
 -- Assumes nothing.
-use mathlib.Core.Path.{◌≡◌, sym, ◌∙◌}
-use Prim.Native.Nat.{ℕ, ◌+◌, ◌-◌}
+use mathlib.Core.Path.{sym, ◌∙◌}
+use Prim.Native.Nat.{ℕ}
 use native.Mathlib.Omega.{arith}
-use lib.ListN.{length, drop, length-replicate}
-use borrow.Author.Rules.{rules}
-use Rattle.row.specs.Sets.{decode}
+use lib.ListN.{length-replicate}
 use Rattle.canonical.specs.Walk.{text_limit}
-use Rattle.canonical.specs.Places.{place_with}
 use Rattle.canonical.proofs.CallLaws.{formed_long, formed_count, place_counted}
 use Rattle.canonical.proofs.PlaceLaws.{search_start, search_end, search_hit, search_next}
 use Rattle.canonical.proofs.places.place_with.Goals as goal

@@ -1,7 +1,6 @@
 -- `canonical::text::comma` meets its contract: nothing, or one byte.
 -- Assumes nothing.
 use mathlib.Core.Path.{sym, ap}
-use borrow.Author.Rules.{rules}
 use Rattle.canonical.proofs.WriteLaws.{wrote_none, wrote_eq}
 use Rattle.canonical.proofs.WalkLaws.{comma as commaOf}
 use Rattle.canonical.proofs.text.comma.Goals as goal

@@ -1,7 +1,6 @@
 -- `canonical::text::is_part` meets its contract.
 -- Assumes nothing.
 use mathlib.Core.Path.{◌∙◌}
-use borrow.Author.Rules.{rules}
 use Rattle.canonical.proofs.WalkLaws.{part_other, part_test}
 use Rattle.canonical.proofs.text.is_part.Goals as goal
 

@@ -1,6 +1,5 @@
 -- `canonical::text::is_under` meets its contract.
 -- Assumes nothing.
-use borrow.Author.Rules.{rules}
 use Rattle.canonical.proofs.WalkLaws.{under_past, under_test}
 use Rattle.canonical.proofs.text.is_under.Goals as goal
 

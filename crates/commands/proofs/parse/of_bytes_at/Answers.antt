@@ -13,10 +13,6 @@ pub returns-then-same-2 : goal.returns-then-same-2
 unfolding of_bytes_at
 returns-then-same-2 c = rw (sym c.same.ensures ∙ c.if-same.false, sym c.same-2.ensures ∙ c.if-same-2.true)
 
-pub returns-then-same-3 : goal.returns-then-same-3
-unfolding of_bytes_at
-returns-then-same-3 c = rw (sym c.same.ensures ∙ c.if-same.false, sym c.same-2.ensures ∙ c.if-same-2.false, sym c.same-3.ensures ∙ c.if-same-3.true)
-
 pub returns : goal.returns
 unfolding of_bytes_at
-returns c = rw (sym c.same.ensures ∙ c.if-same.false, sym c.same-2.ensures ∙ c.if-same-2.false, sym c.same-3.ensures ∙ c.if-same-3.false)
+returns c = rw (sym c.same.ensures ∙ c.if-same.false, sym c.same-2.ensures ∙ c.if-same-2.false)

@@ -9,14 +9,10 @@ pub returns-then-same : goal.returns-then-same
 unfolding of_one
 returns-then-same c = c.scan_of.ensures ∙ (rw (sym c.same.ensures ∙ c.if-same.true))
 
-pub returns-then-same-2 : goal.returns-then-same-2
-unfolding of_one
-returns-then-same-2 c = c.find_of.ensures ∙ (rw (sym c.same.ensures ∙ c.if-same.false, sym c.same-2.ensures ∙ c.if-same-2.true))
-
 pub returns-in-Is : goal.returns-in-Is
 unfolding of_one
-returns-in-Is c = c.of_number.ensures ∙ (rw (sym c.same.ensures ∙ c.if-same.false, sym c.same-2.ensures ∙ c.if-same-2.false, c.in-Is.is))
+returns-in-Is c = c.of_number.ensures ∙ (rw (sym c.same.ensures ∙ c.if-same.false, c.in-Is.is))
 
 pub returns-in-NoNumber : goal.returns-in-NoNumber
 unfolding of_one
-returns-in-NoNumber c = rw (sym c.same.ensures ∙ c.if-same.false, sym c.same-2.ensures ∙ c.if-same-2.false, c.in-NoNumber.is)
+returns-in-NoNumber c = rw (sym c.same.ensures ∙ c.if-same.false, c.in-NoNumber.is)

@@ -13,10 +13,10 @@ pub loop-i-init : goal.loop-i-init
 loop-i-init c = refl
 
 pub returns-then-not-is_space : goal.returns-then-not-is_space
-returns-then-not-is_space c = space_bad _ _ _ c.loop-i.invariant c.loop-i-test.true (sym c.is_space.ensures ∙ not-true _ c.if-not-is_space.true-raw)
+returns-then-not-is_space c = space_bad _ _ _ c.loop-i.invariant c.loop-i-test.true (sym c.is_space.ensures ∙ c.if-not-is_space.true)
 
 pub loop-i-preserved : goal.loop-i-preserved
-loop-i-preserved c = space_turn _ _ _ c.loop-i.invariant c.loop-i-test.true (sym c.is_space.ensures ∙ not-false _ c.if-not-is_space.false-raw)
+loop-i-preserved c = space_turn _ _ _ c.loop-i.invariant c.loop-i-test.true (sym c.is_space.ensures ∙ c.if-not-is_space.false)
 
 pub returns : goal.returns
 returns c = space_end _ _ _ c.loop-i.invariant c.loop-i-test.false

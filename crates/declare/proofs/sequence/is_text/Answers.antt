@@ -7,10 +7,10 @@ use borrow.Author.Rules.{rules}
 use Rattle.declare.proofs.sequence.is_text.Goals as goal
 
 pub returns-then-not-first : goal.returns-then-not-first
-returns-then-not-first c = text_later _ _ _ (not-true _ c.if-not-first.true-raw)
+returns-then-not-first c = text_later _ _ _ c.if-not-first.true
 
 pub returns-then-last : goal.returns-then-last
-returns-then-last c = text_only _ _ _ (not-false _ c.if-not-first.false-raw) c.if-last.true
+returns-then-last c = text_only _ _ _ c.if-not-first.false c.if-last.true
 
 pub returns : goal.returns
-returns c = text_first _ _ _ (not-false _ c.if-not-first.false-raw) c.if-last.false _ c.all_space.ensures
+returns c = text_first _ _ _ c.if-not-first.false c.if-last.false _ c.all_space.ensures

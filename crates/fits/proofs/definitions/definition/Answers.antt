@@ -1,7 +1,6 @@
 -- `fits::definitions::definition` meets its contract: what the table holds is the definition, and what is noted is the one that was found.
 -- Assumes nothing.
 use Rattle.fits.proofs.DefinitionLaws.{found_held, found_noted}
-use borrow.Author.Rules.{rules}
 use Rattle.fits.proofs.definitions.definition.Goals as goal
 
 pub returns-then-known-ne0 : goal.returns-then-known-ne0

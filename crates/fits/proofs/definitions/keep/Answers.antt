@@ -2,7 +2,6 @@
 -- Assumes nothing.
 use mathlib.Core.Path.{sym}
 use lib.Seq.{set_out}
-use borrow.Author.Rules.{rules}
 use Rattle.fits.proofs.definitions.keep.Goals as goal
 
 pub returns-else-row-found : goal.returns-else-row-found

@@ -1,6 +1,5 @@
 -- `fits::leaves::is_of_enum` meets its contract.
 -- Assumes nothing.
-use borrow.Author.Rules.{rules}
 use Rattle.fits.proofs.FitLaws.{enum_depth, then_true, then_false}
 use Rattle.fits.proofs.leaves.is_of_enum.Goals as goal
 

@@ -1,7 +1,6 @@
 -- `fits::leaves::leaf` meets its contract: an arm for each kind.
 -- Assumes nothing.
 use mathlib.Core.Path.{refl}
-use borrow.Author.Rules.{rules}
 use Rattle.fits.proofs.FitLaws.{plain_kind, no_leaf, sized}
 use Rattle.fits.specs.Fits.{kind_fits}
 use Rattle.fits.specs.Steps.{is_nested}

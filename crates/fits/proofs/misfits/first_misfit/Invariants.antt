@@ -1,16 +1,12 @@
 -- `fits::misfits::first_misfit` meets its contract: the first misfit of the rows that are left is the first.
 -- Assumes nothing.
-use mathlib.Core.Path.{◌≡◌, refl, ap}
+use mathlib.Core.Path.{◌≡◌}
 use Prim.Native.Nat.{◌+◌, ◌-◌, ◌≤◌}
 use lib.ListN.{length}
-use borrow.Author.Tests.{not-true, not-false}
 use Rattle.row.specs.Layout.{row_limit}
 use Rattle.row.specs.Sets.{rows_from}
 use Rattle.fits.specs.Misfits.{misfit_in}
 use Rattle.fits.specs.Steps.{type_at, Found}
-use Rattle.fits.proofs.MisfitLaws.{rows_last, misfit_end, misfit_here, misfit_on}
-use Rattle.fits.proofs.DefinitionLaws.{found_zeros}
-use borrow.Author.Rules.{rules}
 use Rattle.fits.proofs.misfits.first_misfit.Given as goal
 
 abbrev pub invariant-loop-i : goal.invariant-loop-i

@@ -1,12 +1,8 @@
 -- `fits::misfits::has_defaults` meets its contract: the answer for the rows that are left is the answer.
 -- Assumes nothing.
-use mathlib.Core.Path.{◌≡◌, ap}
-use Prim.Native.Nat.{◌-◌, ◌≤◌}
-use Rattle.row.specs.Layout.{row_limit}
-use Rattle.row.specs.Sets.{rows_from}
+use mathlib.Core.Path.{ap}
 use Rattle.resolve.specs.Rules.{some}
 use Rattle.fits.specs.Types.{has_default}
-use Rattle.fits.specs.Steps.{type_at}
 use Rattle.fits.proofs.MisfitLaws.{rows_last, defaults_end, defaults_found, defaults_on}
 use borrow.Author.Rules.{rules}
 use Rattle.fits.proofs.misfits.has_defaults.Goals as goal

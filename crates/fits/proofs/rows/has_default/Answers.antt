@@ -2,7 +2,6 @@
 -- Assumes nothing.
 use mathlib.Core.Path.{ap, ◌∙◌}
 use mathlib.Core.Bool.{not}
-use borrow.Author.Rules.{rules}
 use Rattle.name.specs.Name.{is_empty}
 use Rattle.resolve.proofs.RuleLaws.{no_bytes}
 use Rattle.fits.specs.Types.{has_default}

@@ -1,13 +1,9 @@
 -- `fits::rows::has_symbol` meets its contract: the answer for the parts that are left is the answer.
 -- Assumes nothing.
-use Prim.Native.Nat.{◌-◌, ◌≤◌}
-use mathlib.Core.Path.{◌≡◌, ap}
-use borrow.Author.Rules.{rules}
+use mathlib.Core.Path.{ap}
 use Rattle.fits.proofs.RowLaws.{some_end, some_found, some_on}
 use Rattle.resolve.specs.Rules.{some}
-use Rattle.fits.specs.Types.{parts_under}
 use Rattle.fits.specs.Fits.{is_symbol}
-use Rattle.fits.specs.Steps.{type_at, parts_from}
 use Rattle.view.specs.Strings.{string_at}
 use Rattle.fits.proofs.rows.has_symbol.Goals as goal
 

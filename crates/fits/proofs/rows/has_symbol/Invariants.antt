@@ -1,9 +1,7 @@
 -- `fits::rows::has_symbol` meets its contract: the answer for the parts that are left is the answer.
 -- Assumes nothing.
 use Prim.Native.Nat.{◌-◌, ◌≤◌}
-use mathlib.Core.Path.{◌≡◌, ap}
-use borrow.Author.Rules.{rules}
-use Rattle.fits.proofs.RowLaws.{some_end, some_found, some_on}
+use mathlib.Core.Path.{◌≡◌}
 use Rattle.resolve.specs.Rules.{some}
 use Rattle.fits.specs.Types.{parts_under}
 use Rattle.fits.specs.Fits.{is_symbol}

@@ -1,7 +1,6 @@
 -- `fits::rows::is_nested` meets its contract.
 -- Assumes nothing.
 use mathlib.Core.Path.{◌∙◌, sym}
-use borrow.Author.Rules.{rules}
 use Rattle.fits.specs.Steps.{is_nested}
 use Rattle.fits.proofs.rows.is_nested.Goals as goal
 

@@ -1,6 +1,5 @@
 -- `fits::rows::is_symbol` meets its contract.
 -- Assumes nothing.
-use borrow.Author.Rules.{rules}
 use Rattle.fits.proofs.RowLaws.{symbol_text, symbol_none}
 use Rattle.fits.proofs.rows.is_symbol.Goals as goal
 

@@ -1,11 +1,8 @@
 -- `fits::rows::next_part` meets its contract: the parts among the rows that are left are the parts.
 -- Assumes nothing.
-use Prim.Native.Nat.{◌-◌, ◌≤◌}
-use mathlib.Core.Path.{◌≡◌, refl}
+use mathlib.Core.Path.{refl}
 use borrow.Author.Rules.{rules}
 use Rattle.fits.proofs.RowLaws.{part_end, part_stop, part_here, part_deeper}
-use Rattle.fits.specs.Types.{parts_under}
-use Rattle.fits.specs.Steps.{type_at}
 use Rattle.fits.proofs.rows.next_part.Goals as goal
 
 pub loop-i-init : goal.loop-i-init

@@ -1,9 +1,7 @@
 -- `fits::rows::next_part` meets its contract: the parts among the rows that are left are the parts.
 -- Assumes nothing.
 use Prim.Native.Nat.{◌-◌, ◌≤◌}
-use mathlib.Core.Path.{◌≡◌, refl}
-use borrow.Author.Rules.{rules}
-use Rattle.fits.proofs.RowLaws.{part_end, part_stop, part_here, part_deeper}
+use mathlib.Core.Path.{◌≡◌}
 use Rattle.fits.specs.Types.{parts_under}
 use Rattle.fits.specs.Steps.{type_at}
 use Rattle.fits.proofs.rows.next_part.Given as goal

@@ -1,22 +1,17 @@
 -- `fits::rows::type_row` meets its contract: the type behind the rows that are left is the type.
 -- Assumes nothing.
-use borrow.Author.Tests.{not-true, not-false}
-use Prim.Native.Nat.{◌-◌}
-use mathlib.Core.Path.{◌≡◌, refl}
-use borrow.Author.Rules.{rules}
+use mathlib.Core.Path.{refl}
 use Rattle.fits.proofs.RowLaws.{type_end, type_here, type_on}
-use Rattle.fits.specs.Types.{type_of}
-use Rattle.fits.specs.Steps.{type_at}
 use Rattle.fits.proofs.rows.type_row.Goals as goal
 
 pub loop-i-init : goal.loop-i-init
 loop-i-init c = refl
 
 pub returns-then-not-is_kind : goal.returns-then-not-is_kind
-returns-then-not-is_kind c = type_here _ _ _ c.loop-i.invariant c.loop-i-test.true (c.is_kind.ensures _ c.kind_number.ensures) (not-true _ c.if-not-is_kind.true-raw)
+returns-then-not-is_kind c = type_here _ _ _ c.loop-i.invariant c.loop-i-test.true (c.is_kind.ensures _ c.kind_number.ensures) c.if-not-is_kind.true
 
 pub loop-i-preserved : goal.loop-i-preserved
-loop-i-preserved c = type_on _ _ _ c.loop-i.invariant c.loop-i-test.true (c.is_kind.ensures _ c.kind_number.ensures) (not-false _ c.if-not-is_kind.false-raw)
+loop-i-preserved c = type_on _ _ _ c.loop-i.invariant c.loop-i-test.true (c.is_kind.ensures _ c.kind_number.ensures) c.if-not-is_kind.false
 
 pub returns : goal.returns
 returns c = type_end _ _ _ c.loop-i.invariant c.loop-i-test.false

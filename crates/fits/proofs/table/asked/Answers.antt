@@ -1,7 +1,6 @@
 -- `fits::table::asked` meets its contract.
 -- Assumes nothing.
 use mathlib.Core.Path.{◌∙◌}
-use borrow.Author.Rules.{rules}
 use native.Mathlib.Omega.{arith}
 use Rattle.fits.proofs.TableLaws.{place_few, entry_row, entry_place, entry_here, entry_out}
 use native.Mathlib.Nat.{le_of_lt}

@@ -1,6 +1,5 @@
 -- `fits::table::note` meets its contract.
 -- Assumes nothing.
-use borrow.Author.Rules.{rules}
 use native.Mathlib.Omega.{arith}
 use Rattle.fits.proofs.TableLaws.{place_few, noted_row, noted_place, noted_here, noted_out}
 use native.Mathlib.Nat.{le_of_lt}

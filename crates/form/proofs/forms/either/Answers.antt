@@ -1,7 +1,6 @@
 -- `form::forms::either` meets its contract.
 -- Assumes nothing.
 use mathlib.Core.Path.{◌∙◌, sym}
-use borrow.Author.Rules.{rules}
 use Rattle.form.proofs.forms.either.Goals as goal
 
 pub returns-then-same : goal.returns-then-same

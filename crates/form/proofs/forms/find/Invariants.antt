@@ -1,9 +1,6 @@
 -- `form::forms::find` meets its contract: the form of the schema that is left to look at is the whole one's.
 -- Assumes nothing.
-use mathlib.Core.Path.{◌≡◌, refl}
-use borrow.Author.Rules.{rules}
-use borrow.Author.Tests.{not-false, not-true}
-use Rattle.form.proofs.Shapes.{find_missing, find_nested, find_object, find_other, find_out}
+use mathlib.Core.Path.{◌≡◌}
 use Rattle.form.specs.Forms.{form_of, form_within}
 use Rattle.form.proofs.forms.find.Given as goal
 

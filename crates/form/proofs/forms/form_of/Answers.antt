@@ -1,7 +1,6 @@
 -- `form::forms::form_of` meets its contract: each test is the definition's.
 -- Assumes nothing.
 use mathlib.Core.Path.{◌∙◌, sym}
-use borrow.Author.Rules.{rules}
 use Rattle.form.specs.Forms.{object_form}
 use Rattle.form.proofs.forms.form_of.Goals as goal
 

@@ -1,7 +1,6 @@
 -- `form::forms::kind_of` meets its contract: its length leaves two words.
 -- Assumes nothing.
 use mathlib.Core.Path.{◌∙◌, sym}
-use borrow.Author.Rules.{rules}
 use Rattle.form.proofs.Words.{kind_of_five, kind_of_four, kind_of_others, kind_of_six}
 use Rattle.form.proofs.forms.kind_of.Goals as goal
 

@@ -1,7 +1,6 @@
 -- `form::forms::other_form` meets its contract.
 -- Assumes nothing.
 use mathlib.Core.Path.{◌∙◌, sym}
-use borrow.Author.Rules.{rules}
 use Rattle.form.proofs.forms.other_form.Goals as goal
 
 pub returns-then-is_text : goal.returns-then-is_text

@@ -2,7 +2,6 @@
 -- Assumes nothing.
 use mathlib.Core.Path.{◌∙◌, sym, ap}
 use native.Mathlib.Omega.{arith}
-use borrow.Author.Rules.{rules}
 use Rattle.form.proofs.Words.{kind_of_long}
 use Rattle.form.proofs.Written.{copied_fit}
 use Rattle.form.specs.Forms.{word_kind}

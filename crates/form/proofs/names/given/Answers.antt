@@ -1,6 +1,5 @@
 -- `form::names::given` meets its contract.
 -- Assumes nothing.
-use borrow.Author.Rules.{rules}
 use Rattle.form.proofs.Written.{given_free, given_reserved}
 use Rattle.form.proofs.names.given.Goals as goal
 

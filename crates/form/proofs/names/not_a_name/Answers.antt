@@ -2,7 +2,6 @@
 -- Assumes nothing.
 use mathlib.Core.Path.{ap}
 use Prim.Native.Nat.{ℕ}
-use borrow.Author.Rules.{rules}
 use Rattle.answer.specs.declared.refusal.Why.TheVariants.{NotAName}
 use Rattle.form.specs.Checks.{fault}
 use Rattle.form.proofs.names.not_a_name.Goals as goal

@@ -1,6 +1,5 @@
 -- `form::names::qualified` meets its contract.
 -- Assumes nothing.
-use borrow.Author.Rules.{rules}
 use Rattle.form.proofs.Written.{keep_fits, keep_long}
 use Rattle.name.specs.Name.{full_name}
 use Rattle.form.proofs.names.qualified.Goals as goal

@@ -1,8 +1,6 @@
 -- `form::names::reference` meets its contract.
 -- Assumes nothing.
 use native.Mathlib.Omega.{arith}
-use borrow.Author.Rules.{rules}
-use borrow.Author.Tests.{not-false, not-true}
 use Rattle.form.proofs.Written.{copied, reference_kept, reference_not}
 use Rattle.form.proofs.names.reference.Goals as goal
 
@@ -10,10 +8,10 @@ pub slice_bounds-is_name-end : goal.slice_bounds-is_name-end
 slice_bounds-is_name-end c = let h = (copied c.args.text.now c.args.at c.args.word.now c.string_copy-n.ensures c.requires.0 (omega arith)).room in omega arith
 
 pub returns-then-not-is_name : goal.returns-then-not-is_name
-returns-then-not-is_name c = reference_not c.args.text.now c.args.namespace.now c.args.at c.args.full.now (copied c.args.text.now c.args.at c.args.word.now c.string_copy-n.ensures c.requires.0 (omega arith)).front c.is_name.ensures (not-true _ c.if-not-is_name.true-raw) c.not_a_name.ensures
+returns-then-not-is_name c = reference_not c.args.text.now c.args.namespace.now c.args.at c.args.full.now (copied c.args.text.now c.args.at c.args.word.now c.string_copy-n.ensures c.requires.0 (omega arith)).front c.is_name.ensures c.if-not-is_name.true c.not_a_name.ensures
 
 pub slice_bounds-qualified-end : goal.slice_bounds-qualified-end
 slice_bounds-qualified-end c = let h = (copied c.args.text.now c.args.at c.args.word.now c.string_copy-n.ensures c.requires.0 (omega arith)).room in omega arith
 
 pub returns : goal.returns
-returns c = reference_kept c.args.text.now c.args.namespace.now c.args.at c.args.full.now (copied c.args.text.now c.args.at c.args.word.now c.string_copy-n.ensures c.requires.0 (omega arith)).front c.is_name.ensures (not-false _ c.if-not-is_name.false-raw) c.qualified.ensures
+returns c = reference_kept c.args.text.now c.args.namespace.now c.args.at c.args.full.now (copied c.args.text.now c.args.at c.args.word.now c.string_copy-n.ensures c.requires.0 (omega arith)).front c.is_name.ensures c.if-not-is_name.false c.qualified.ensures

@@ -1,12 +1,10 @@
 -- `form::names::simple` meets its contract.
 -- Assumes nothing.
-use borrow.Author.Tests.{not-false, not-true}
 use Rattle.form.proofs.Written.{simple_kept, simple_not}
-use borrow.Author.Rules.{rules}
 use Rattle.form.proofs.names.simple.Goals as goal
 
 pub returns-then-not-is_simple : goal.returns-then-not-is_simple
-returns-then-not-is_simple c = simple_not _ _ _ c.is_simple.ensures (not-true _ c.if-not-is_simple.true-raw) c.not_simple.ensures
+returns-then-not-is_simple c = simple_not _ _ _ c.is_simple.ensures c.if-not-is_simple.true c.not_simple.ensures
 
 pub returns : goal.returns
-returns c = simple_kept c.args.text.now _ _ c.is_simple.ensures (not-false _ c.if-not-is_simple.false-raw) c.must.ensures
+returns c = simple_kept c.args.text.now _ _ c.is_simple.ensures c.if-not-is_simple.false c.must.ensures

@@ -3,7 +3,6 @@
 use native.Mathlib.Omega.{arith}
 use Rattle.form.proofs.Written.{copied, simple_at}
 use Rattle.view.proofs.Known.{literal_lent}
-use borrow.Author.Rules.{rules}
 use Rattle.form.proofs.names.simple_check.Goals as goal
 
 pub overflow_add-start : goal.overflow_add-start

@@ -1,7 +1,6 @@
 -- `form::note::compared` meets its contract.
 -- Assumes nothing.
 use mathlib.Core.Path.{sym, ◌∙◌}
-use borrow.Author.Rules.{rules}
 use borrow.Author.Tests.{eq-eqb, le-ltb, lt-ltb, ne_eqb}
 use Rattle.form.specs.Notes.{compared}
 use Rattle.form.proofs.note.compared.Goals as goal

@@ -1,6 +1,5 @@
 -- `form::note::decimal_note` meets its contract.
 -- Assumes nothing.
-use borrow.Author.Rules.{rules}
 use Rattle.form.proofs.Decimal.{note_decimal, note_plain}
 use Rattle.form.proofs.note.decimal_note.Goals as goal
 

@@ -1,6 +1,5 @@
 -- `form::note::exceeds` meets its contract.
 -- Assumes nothing.
-use borrow.Author.Rules.{rules}
 use Rattle.form.proofs.Decimal.{exceeds_bytes, exceeds_fixed}
 use Rattle.form.proofs.note.exceeds.Goals as goal
 

@@ -1,6 +1,5 @@
 -- `form::note::is_decimal` meets its contract.
 -- Assumes nothing.
-use borrow.Author.Rules.{rules}
 use Rattle.form.proofs.Decimal.{logical_type_lem, plain_type}
 use Rattle.form.proofs.note.is_decimal.Goals as goal
 

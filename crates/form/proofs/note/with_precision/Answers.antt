@@ -1,6 +1,5 @@
 -- `form::note::with_precision` meets its contract.
 -- Assumes nothing.
-use borrow.Author.Rules.{rules}
 use Rattle.form.proofs.Decimal.{precision_none, precision_other, precision_value}
 use Rattle.form.proofs.note.with_precision.Goals as goal
 

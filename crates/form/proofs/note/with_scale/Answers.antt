@@ -1,6 +1,5 @@
 -- `form::note::with_scale` meets its contract.
 -- Assumes nothing.
-use borrow.Author.Rules.{rules}
 use Rattle.form.proofs.Decimal.{scale_none, scale_other, scale_value}
 use Rattle.form.proofs.note.with_scale.Goals as goal
 

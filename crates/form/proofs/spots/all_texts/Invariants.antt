@@ -1,12 +1,8 @@
 -- `form::spots::all_texts` meets its contract: the answer for what is left is the whole answer.
 -- Assumes nothing.
-use mathlib.Core.Path.{◌≡◌, ap}
-use borrow.Author.Rules.{rules}
-use borrow.Author.Tests.{not-false, not-true}
+use mathlib.Core.Path.{◌≡◌}
 use lib.ListN.{length}
-use Rattle.form.proofs.Places.{texts_done, texts_not, texts_turn, visit_less}
 use Rattle.form.specs.Spots.{all_texts}
-use Rattle.view.proofs.Laws.{left_start}
 use Rattle.view.specs.Elements.{elements, elements_at}
 use Rattle.form.proofs.spots.all_texts.Given as goal
 

@@ -1,6 +1,5 @@
 -- `form::spots::as_array` meets its contract.
 -- Assumes nothing.
-use borrow.Author.Rules.{rules}
 use Rattle.form.proofs.Places.{array_here, array_none, array_other}
 use Rattle.form.proofs.spots.as_array.Goals as goal
 

@@ -1,6 +1,5 @@
 -- `form::spots::as_text` meets its contract.
 -- Assumes nothing.
-use borrow.Author.Rules.{rules}
 use Rattle.form.proofs.Places.{text_here, text_none, text_other}
 use Rattle.form.proofs.spots.as_text.Goals as goal
 

@@ -1,6 +1,5 @@
 -- `form::spots::first_alias` meets its contract.
 -- Assumes nothing.
-use borrow.Author.Rules.{rules}
 use Rattle.form.proofs.Places.{aliases_here, aliases_none, aliases_other}
 use Rattle.form.proofs.spots.first_alias.Goals as goal
 

@@ -1,7 +1,6 @@
 -- `form::spots::is_array` meets its contract.
 -- Assumes nothing.
 use mathlib.Core.Path.{◌∙◌, ap, sym}
-use borrow.Author.Rules.{rules}
 use Rattle.form.specs.Spots.{is_array}
 use Rattle.form.proofs.spots.is_array.Goals as goal
 

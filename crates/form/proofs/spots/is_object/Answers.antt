@@ -1,7 +1,6 @@
 -- `form::spots::is_object` meets its contract.
 -- Assumes nothing.
 use mathlib.Core.Path.{◌∙◌, ap, sym}
-use borrow.Author.Rules.{rules}
 use Rattle.form.specs.Spots.{is_object}
 use Rattle.form.proofs.spots.is_object.Goals as goal
 

@@ -1,7 +1,6 @@
 -- `form::spots::is_text` meets its contract.
 -- Assumes nothing.
 use mathlib.Core.Path.{◌∙◌, ap, sym}
-use borrow.Author.Rules.{rules}
 use Rattle.form.specs.Spots.{is_text}
 use Rattle.form.proofs.spots.is_text.Goals as goal
 

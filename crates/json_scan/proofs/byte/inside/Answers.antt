@@ -1,7 +1,5 @@
--- `json::inside` meets its contract. Assumes nothing.
+-- `json_scan::inside` meets its contract. Assumes nothing.
 use borrow.Author.Tests.{lt-leb, le-leb}
-use Rattle.json_scan.proofs.byte.inside.Reads as reads
-use Rattle.json_scan.proofs.byte.inside.Lts as lts
 use Rattle.json_scan.proofs.byte.inside.Goals as goal
 
 pub returns-then-b-lo : goal.returns-then-b-lo

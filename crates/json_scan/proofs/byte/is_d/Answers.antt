@@ -1,7 +1,5 @@
--- `json::is_d` meets its contract. Assumes nothing.
+-- `json_scan::is_d` meets its contract. Assumes nothing.
 use borrow.Author.Tests.{eq-eqb, ne_eqb}
-use Rattle.json_scan.proofs.byte.is_d.Reads as reads
-use Rattle.json_scan.proofs.byte.is_d.Lts as lts
 use Rattle.json_scan.proofs.byte.is_d.Goals as goal
 
 pub returns-then-b-eq100 : goal.returns-then-b-eq100

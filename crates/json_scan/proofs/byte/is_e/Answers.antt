@@ -1,7 +1,5 @@
--- `json::is_e` meets its contract. Assumes nothing.
+-- `json_scan::is_e` meets its contract. Assumes nothing.
 use borrow.Author.Tests.{eq-eqb, ne_eqb}
-use Rattle.json_scan.proofs.byte.is_e.Reads as reads
-use Rattle.json_scan.proofs.byte.is_e.Lts as lts
 use Rattle.json_scan.proofs.byte.is_e.Goals as goal
 
 pub returns-then-b-eq101 : goal.returns-then-b-eq101

@@ -1,9 +1,5 @@
--- `json::is_high` meets its contract. Assumes nothing.
+-- `json_scan::is_high` meets its contract. Assumes nothing.
 use mathlib.Core.Path.{sym, ◌∙◌}
-use borrow.Author.Rules.{rules}
-use Rattle.json_scan.proofs.byte.is_high.Reads as reads
-use Rattle.json_scan.proofs.byte.is_high.Lts as lts
-use Rattle.json_scan.proofs.byte.inside.Reads as inside-reads
 use Rattle.json_scan.proofs.byte.is_high.Goals as goal
 
 pub returns-then-inside : goal.returns-then-inside

@@ -1,7 +1,5 @@
--- `json::is_sign` meets its contract. Assumes nothing.
+-- `json_scan::is_sign` meets its contract. Assumes nothing.
 use borrow.Author.Tests.{eq-eqb, ne_eqb}
-use Rattle.json_scan.proofs.byte.is_sign.Reads as reads
-use Rattle.json_scan.proofs.byte.is_sign.Lts as lts
 use Rattle.json_scan.proofs.byte.is_sign.Goals as goal
 
 pub returns-then-b-eq43 : goal.returns-then-b-eq43

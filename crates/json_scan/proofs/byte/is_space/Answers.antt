@@ -1,7 +1,5 @@
--- `json::is_space` meets its contract: each test is one of `is_space`. Assumes nothing.
+-- `json_scan::is_space` meets its contract: each test is one of `is_space`. Assumes nothing.
 use borrow.Author.Tests.{eq-eqb, ne_eqb}
-use Rattle.json_scan.proofs.byte.is_space.Reads as reads
-use Rattle.json_scan.proofs.byte.is_space.Lts as lts
 use Rattle.json_scan.proofs.byte.is_space.Goals as goal
 
 pub returns-then-b-eq32 : goal.returns-then-b-eq32

@@ -1,11 +1,9 @@
--- `json::is_unescaped` meets its contract: each test decides the others of `is_unescaped`. Assumes nothing.
+-- `json_scan::is_unescaped` meets its contract: each test decides the others of `is_unescaped`. Assumes nothing.
 use mathlib.Core.Path.{sym, ap}
 use mathlib.Core.Bool.{and-true}
 use native.Mathlib.Omega.{arith}
 use borrow.Author.Tests.{ne_eqb, le-leb}
 use Rattle.json_scan.specs.Json.{is_unescaped}
-use Rattle.json_scan.proofs.byte.is_unescaped.Reads as reads
-use Rattle.json_scan.proofs.byte.is_unescaped.Lts as lts
 use Rattle.json_scan.proofs.byte.is_unescaped.Goals as goal
 
 pub returns-then-b-gt92 : goal.returns-then-b-gt92

@@ -1,21 +1,11 @@
--- `json::after_d` meets its contract. Assumes nothing.
+-- `json_scan::after_d` meets its contract. Assumes nothing.
 use mathlib.Core.Path.{refl, sym, ap, ◌∙◌}
 use Prim.Native.Nat.{◌+◌}
 use native.Mathlib.Omega.{arith}
-use borrow.Author.Tests.{not-true, not-false}
 use Rattle.ground.proofs.Laws.{byte_at_lem}
 use Rattle.json_scan.specs.Json.{inside, is_high, str, plain, h2d, h3, g3, g5}
 use Rattle.json_scan.proofs.Readers.{lt_of_class, reads_is, reads_then, reads_bad}
 use Rattle.json_scan.proofs.Strings.{below_8, no_high, high_on, last_two, high_two}
-use borrow.Author.Rules.{rules}
-use Rattle.json_scan.proofs.escape.after_d.Reads as reads
-use Rattle.json_scan.proofs.escape.after_d.Lts as lts
-use Rattle.json_scan.proofs.step.bad.Reads as bad-reads
-use Rattle.ground.proofs.byte_at.Reads as byte-at-reads
-use Rattle.json_scan.proofs.byte.inside.Reads as inside-reads
-use Rattle.json_scan.proofs.byte.is_high.Reads as is-high-reads
-use Rattle.json_scan.proofs.escape.low_half.Reads as low-half-reads
-use Rattle.json_scan.proofs.escape.two_hex.Reads as two-hex-reads
 use Rattle.json_scan.proofs.escape.after_d.Goals as goal
 
 pub overflow_add-at : goal.overflow_add-at
@@ -27,15 +17,15 @@ pub returns-then-inside : goal.returns-then-inside
 returns-then-inside c = λ w. below_8 c.args.text.now c.args.at w (ap (inside 48 55) (sym ((c.byte_at-b.ensures ∙ byte_at_lem _ _))) ∙ sym c.inside.ensures ∙ c.if-inside.true) _ (reads_is c.args.text.now (c.args.at + 1) (str w h3) (str w plain) _ _ c.two_hex.ensures (last_two c.args.text.now (c.args.at + 1) w))
 
 pub returns-then-not-is_high : goal.returns-then-not-is_high
-returns-then-not-is_high c = λ w. reads_is c.args.text.now c.args.at (str w h2d) (str w plain) _ _ c.bad.ensures (no_high c.args.text.now c.args.at w (ap (inside 48 55) (sym ((c.byte_at-b.ensures ∙ byte_at_lem _ _))) ∙ sym c.inside.ensures ∙ c.if-inside.false) (ap is_high (sym ((c.byte_at-b.ensures ∙ byte_at_lem _ _))) ∙ sym c.is_high.ensures ∙ not-true _ c.if-not-is_high.true-raw))
+returns-then-not-is_high c = λ w. reads_is c.args.text.now c.args.at (str w h2d) (str w plain) _ _ c.bad.ensures (no_high c.args.text.now c.args.at w (ap (inside 48 55) (sym ((c.byte_at-b.ensures ∙ byte_at_lem _ _))) ∙ sym c.inside.ensures ∙ c.if-inside.false) (ap is_high (sym ((c.byte_at-b.ensures ∙ byte_at_lem _ _))) ∙ sym c.is_high.ensures ∙ c.if-not-is_high.true))
 
 pub overflow_add-at-2 : goal.overflow_add-at-2
 overflow_add-at-2 c =
-    let h = lt_of_class is_high refl c.args.text.now c.args.at (ap is_high (sym ((c.byte_at-b.ensures ∙ byte_at_lem _ _))) ∙ sym c.is_high.ensures ∙ not-false _ c.if-not-is_high.false-raw) in
+    let h = lt_of_class is_high refl c.args.text.now c.args.at (ap is_high (sym ((c.byte_at-b.ensures ∙ byte_at_lem _ _))) ∙ sym c.is_high.ensures ∙ c.if-not-is_high.false) in
     omega arith
 
 pub returns-in-Next : goal.returns-in-Next
-returns-in-Next c = λ w. high_on c.args.text.now c.args.at w (ap (inside 48 55) (sym ((c.byte_at-b.ensures ∙ byte_at_lem _ _))) ∙ sym c.inside.ensures ∙ c.if-inside.false) (ap is_high (sym ((c.byte_at-b.ensures ∙ byte_at_lem _ _))) ∙ sym c.is_high.ensures ∙ not-false _ c.if-not-is_high.false-raw) _ (reads_then c.args.text.now (c.args.at + 1) (str w g3) (str w g5) (str w plain) _ (reads_is c.args.text.now (c.args.at + 1) (str w g3) (str w g5) _ _ c.two_hex-2.ensures (high_two c.args.text.now (c.args.at + 1) w)) _ c.in-Next.is _ (c.low_half.ensures w))
+returns-in-Next c = λ w. high_on c.args.text.now c.args.at w (ap (inside 48 55) (sym ((c.byte_at-b.ensures ∙ byte_at_lem _ _))) ∙ sym c.inside.ensures ∙ c.if-inside.false) (ap is_high (sym ((c.byte_at-b.ensures ∙ byte_at_lem _ _))) ∙ sym c.is_high.ensures ∙ c.if-not-is_high.false) _ (reads_then c.args.text.now (c.args.at + 1) (str w g3) (str w g5) (str w plain) _ (reads_is c.args.text.now (c.args.at + 1) (str w g3) (str w g5) _ _ c.two_hex-2.ensures (high_two c.args.text.now (c.args.at + 1) w)) _ c.in-Next.is _ (c.low_half.ensures w))
 
 pub returns-in-Fails : goal.returns-in-Fails
-returns-in-Fails c = λ w. high_on c.args.text.now c.args.at w (ap (inside 48 55) (sym ((c.byte_at-b.ensures ∙ byte_at_lem _ _))) ∙ sym c.inside.ensures ∙ c.if-inside.false) (ap is_high (sym ((c.byte_at-b.ensures ∙ byte_at_lem _ _))) ∙ sym c.is_high.ensures ∙ not-false _ c.if-not-is_high.false-raw) _ (reads_bad c.args.text.now (c.args.at + 1) (str w g3) (str w g5) (str w plain) _ (reads_is c.args.text.now (c.args.at + 1) (str w g3) (str w g5) _ _ c.two_hex-2.ensures (high_two c.args.text.now (c.args.at + 1) w)) _ c.in-Fails.is)
+returns-in-Fails c = λ w. high_on c.args.text.now c.args.at w (ap (inside 48 55) (sym ((c.byte_at-b.ensures ∙ byte_at_lem _ _))) ∙ sym c.inside.ensures ∙ c.if-inside.false) (ap is_high (sym ((c.byte_at-b.ensures ∙ byte_at_lem _ _))) ∙ sym c.is_high.ensures ∙ c.if-not-is_high.false) _ (reads_bad c.args.text.now (c.args.at + 1) (str w g3) (str w g5) (str w plain) _ (reads_is c.args.text.now (c.args.at + 1) (str w g3) (str w g5) _ _ c.two_hex-2.ensures (high_two c.args.text.now (c.args.at + 1) w)) _ c.in-Fails.is)

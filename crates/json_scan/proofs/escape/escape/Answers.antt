@@ -1,4 +1,4 @@
--- `json::escape` meets its contract. Assumes nothing.
+-- `json_scan::escape` meets its contract. Assumes nothing.
 use mathlib.Core.Path.{refl, sym, ap, ◌∙◌}
 use native.Mathlib.Omega.{arith}
 use Rattle.ground.proofs.Laws.{byte_at_lem}
@@ -6,13 +6,6 @@ use Rattle.json_scan.specs.Json.{is_short, str, plain, esc}
 use Rattle.json_scan.proofs.Readers.{lt_of_class, reads_is}
 use Rattle.json_scan.proofs.Items.{lt_of_byte}
 use Rattle.json_scan.proofs.Strings.{short, esc_u, esc_bad}
-use borrow.Author.Rules.{rules}
-use Rattle.json_scan.proofs.escape.escape.Reads as reads
-use Rattle.json_scan.proofs.escape.escape.Lts as lts
-use Rattle.json_scan.proofs.step.bad.Reads as bad-reads
-use Rattle.ground.proofs.byte_at.Reads as byte-at-reads
-use Rattle.json_scan.proofs.escape.four_hex.Reads as four-hex-reads
-use Rattle.json_scan.proofs.byte.is_short.Reads as is-short-reads
 use Rattle.json_scan.proofs.escape.escape.Goals as goal
 
 pub overflow_add-result : goal.overflow_add-result

@@ -1,17 +1,10 @@
--- `json::four_hex` meets its contract. Assumes nothing.
+-- `json_scan::four_hex` meets its contract. Assumes nothing.
 use mathlib.Core.Path.{refl, sym, ap, ◌∙◌}
 use native.Mathlib.Omega.{arith}
 use Rattle.ground.proofs.Laws.{byte_at_lem}
 use Rattle.json_scan.specs.Json.{is_d, str, plain, h1, h3}
 use Rattle.json_scan.proofs.Readers.{lt_of_class, reads_is, reads_then, reads_bad}
 use Rattle.json_scan.proofs.Strings.{h1_d, first_two, last_two}
-use borrow.Author.Rules.{rules}
-use Rattle.json_scan.proofs.escape.four_hex.Reads as reads
-use Rattle.json_scan.proofs.escape.four_hex.Lts as lts
-use Rattle.json_scan.proofs.escape.after_d.Reads as after-d-reads
-use Rattle.ground.proofs.byte_at.Reads as byte-at-reads
-use Rattle.json_scan.proofs.byte.is_d.Reads as is-d-reads
-use Rattle.json_scan.proofs.escape.two_hex.Reads as two-hex-reads
 use Rattle.json_scan.proofs.escape.four_hex.Goals as goal
 
 pub overflow_add-at : goal.overflow_add-at

@@ -1,16 +1,10 @@
--- `json::hex` meets its contract. Assumes nothing.
+-- `json_scan::hex` meets its contract. Assumes nothing.
 use mathlib.Core.Path.{refl, sym, ap, ◌∙◌}
 use mathlib.Core.Bool.{Bool}
 use Rattle.ground.proofs.Laws.{byte_at_lem}
 use Rattle.json_scan.specs.Json.{is_hex}
 use Rattle.json_scan.specs.Meets.{took}
 use Rattle.json_scan.proofs.Readers.{lt_of_class}
-use borrow.Author.Rules.{rules}
-use Rattle.json_scan.proofs.escape.hex.Reads as reads
-use Rattle.json_scan.proofs.escape.hex.Lts as lts
-use Rattle.ground.proofs.byte_at.Reads as byte-at-reads
-use Rattle.json_scan.proofs.byte.is_hex.Reads as is-hex-reads
-use Rattle.json_scan.proofs.step.take.Reads as take-reads
 use Rattle.json_scan.proofs.escape.hex.Goals as goal
 
 pub take-requires : goal.take-requires

@@ -1,12 +1,7 @@
--- `json::low_half` meets its contract. Assumes nothing.
+-- `json_scan::low_half` meets its contract. Assumes nothing.
 use Rattle.json_scan.specs.Json.{str, plain, g5, g6, g7}
 use Rattle.json_scan.proofs.Readers.{reads_is, reads_then, reads_bad}
 use Rattle.json_scan.proofs.Strings.{slash, letter_u}
-use borrow.Author.Rules.{rules}
-use Rattle.json_scan.proofs.escape.low_half.Reads as reads
-use Rattle.json_scan.proofs.escape.low_half.Lts as lts
-use Rattle.json_scan.proofs.step.byte.Reads as byte-Reads
-use Rattle.json_scan.proofs.escape.low_digits.Reads as low-digits-reads
 use Rattle.json_scan.proofs.escape.low_half.Goals as goal
 
 pub returns-in-Next-byte : goal.returns-in-Next-byte

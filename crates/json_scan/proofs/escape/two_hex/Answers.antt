@@ -1,11 +1,7 @@
--- `json::two_hex` meets its contract. Assumes nothing.
+-- `json_scan::two_hex` meets its contract. Assumes nothing.
 use mathlib.Core.Path.{sym, ap, ◌∙◌}
 use Rattle.json_scan.specs.Json.{is_hex}
 use Rattle.json_scan.specs.Meets.{then_one}
-use borrow.Author.Rules.{rules}
-use Rattle.json_scan.proofs.escape.two_hex.Reads as reads
-use Rattle.json_scan.proofs.escape.two_hex.Lts as lts
-use Rattle.json_scan.proofs.escape.hex.Reads as hex-reads
 use Rattle.json_scan.proofs.escape.two_hex.Goals as goal
 
 pub returns-in-Next : goal.returns-in-Next

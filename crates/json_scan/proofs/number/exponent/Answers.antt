@@ -1,16 +1,10 @@
--- `json::exponent` meets its contract. Assumes nothing.
+-- `json_scan::exponent` meets its contract. Assumes nothing.
 use mathlib.Core.Path.{refl, sym, ap, ◌∙◌}
 use native.Mathlib.Omega.{arith}
 use Rattle.ground.proofs.Laws.{byte_at_lem}
 use Rattle.json_scan.specs.Json.{is_e}
 use Rattle.json_scan.proofs.Readers.{lt_of_class}
 use Rattle.json_scan.proofs.Numbers.{powers, unpowered}
-use borrow.Author.Rules.{rules}
-use Rattle.json_scan.proofs.number.exponent.Reads as reads
-use Rattle.json_scan.proofs.number.exponent.Lts as lts
-use Rattle.ground.proofs.byte_at.Reads as byte-at-reads
-use Rattle.json_scan.proofs.byte.is_e.Reads as is-e-reads
-use Rattle.json_scan.proofs.number.power.Reads as power-reads
 use Rattle.json_scan.proofs.number.exponent.Goals as goal
 
 pub overflow_add-at : goal.overflow_add-at

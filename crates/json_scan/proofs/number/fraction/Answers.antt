@@ -1,15 +1,9 @@
--- `json::fraction` meets its contract. Assumes nothing.
+-- `json_scan::fraction` meets its contract. Assumes nothing.
 use mathlib.Core.Path.{sym, ◌∙◌}
 use native.Mathlib.Omega.{arith}
 use Rattle.ground.proofs.Laws.{byte_at_lem}
 use Rattle.json_scan.proofs.Items.{lt_of_byte}
 use Rattle.json_scan.proofs.Numbers.{pointed_on, pointed_bad, unpointed}
-use borrow.Author.Rules.{rules}
-use Rattle.json_scan.proofs.number.fraction.Reads as reads
-use Rattle.json_scan.proofs.number.fraction.Lts as lts
-use Rattle.ground.proofs.byte_at.Reads as byte-at-reads
-use Rattle.json_scan.proofs.number.exponent.Reads as exponent-reads
-use Rattle.json_scan.proofs.number.some_digits.Reads as some-digits-reads
 use Rattle.json_scan.proofs.number.fraction.Goals as goal
 
 pub overflow_add-at : goal.overflow_add-at

@@ -1,15 +1,9 @@
--- `json::number` meets its contract. Assumes nothing.
+-- `json_scan::number` meets its contract. Assumes nothing.
 use mathlib.Core.Path.{sym, ◌∙◌}
 use native.Mathlib.Omega.{arith}
 use Rattle.ground.proofs.Laws.{byte_at_lem}
 use Rattle.json_scan.proofs.Items.{lt_of_byte}
 use Rattle.json_scan.proofs.Numbers.{from_nought, from_digits, no_digits}
-use borrow.Author.Rules.{rules}
-use Rattle.json_scan.proofs.number.number.Reads as reads
-use Rattle.json_scan.proofs.number.number.Lts as lts
-use Rattle.ground.proofs.byte_at.Reads as byte-at-reads
-use Rattle.json_scan.proofs.number.fraction.Reads as fraction-reads
-use Rattle.json_scan.proofs.number.some_digits.Reads as some-digits-reads
 use Rattle.json_scan.proofs.number.number.Goals as goal
 
 pub overflow_add-at : goal.overflow_add-at

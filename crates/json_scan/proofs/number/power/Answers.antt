@@ -1,16 +1,10 @@
--- `json::power` meets its contract. Assumes nothing.
+-- `json_scan::power` meets its contract. Assumes nothing.
 use mathlib.Core.Path.{refl, sym, ap, ◌∙◌}
 use native.Mathlib.Omega.{arith}
 use Rattle.ground.proofs.Laws.{byte_at_lem}
 use Rattle.json_scan.specs.Json.{is_sign}
 use Rattle.json_scan.proofs.Readers.{lt_of_class}
 use Rattle.json_scan.proofs.Numbers.{signed, unsigned}
-use borrow.Author.Rules.{rules}
-use Rattle.json_scan.proofs.number.power.Reads as reads
-use Rattle.json_scan.proofs.number.power.Lts as lts
-use Rattle.ground.proofs.byte_at.Reads as byte-at-reads
-use Rattle.json_scan.proofs.byte.is_sign.Reads as is-sign-reads
-use Rattle.json_scan.proofs.number.some_digits.Reads as some-digits-reads
 use Rattle.json_scan.proofs.number.power.Goals as goal
 
 pub overflow_add-at : goal.overflow_add-at

@@ -1,10 +1,5 @@
--- `json::some_digits` meets its contract. Assumes nothing.
+-- `json_scan::some_digits` meets its contract. Assumes nothing.
 use Rattle.json_scan.proofs.Numbers.{digits_on, digits_bad}
-use borrow.Author.Rules.{rules}
-use Rattle.json_scan.proofs.number.some_digits.Reads as reads
-use Rattle.json_scan.proofs.number.some_digits.Lts as lts
-use Rattle.json_scan.proofs.number.digits.Reads as digits-reads
-use Rattle.json_scan.proofs.step.within.Reads as within-reads
 use Rattle.json_scan.proofs.number.some_digits.Goals as goal
 
 pub returns-in-Next : goal.returns-in-Next

@@ -1,4 +1,4 @@
--- `json::byte` meets its contract. Assumes nothing.
+-- `json_scan::byte` meets its contract. Assumes nothing.
 use mathlib.Core.Path.{sym, ap, ◌∙◌}
 use Prim.Native.Nat.{ℕ}
 use borrow.Author.Tests.{ne_eqb}
@@ -6,11 +6,6 @@ use Rattle.ground.proofs.Laws.{byte_at_lem}
 use Rattle.json_scan.specs.Json.{is_byte}
 use Rattle.json_scan.specs.Meets.{took}
 use Rattle.json_scan.proofs.Readers.{lt_of_class, apart}
-use borrow.Author.Rules.{rules}
-use Rattle.json_scan.proofs.step.byte.Reads as reads
-use Rattle.json_scan.proofs.step.byte.Lts as lts
-use Rattle.ground.proofs.byte_at.Reads as byte-at-reads
-use Rattle.json_scan.proofs.step.take.Reads as take-reads
 use Rattle.json_scan.proofs.step.byte.Goals as goal
 
 pub take-requires : goal.take-requires

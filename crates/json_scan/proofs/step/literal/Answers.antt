@@ -1,15 +1,10 @@
--- `json::literal` meets its contract. Assumes nothing.
-use borrow.Author.Rules.{rules}
-use mathlib.Core.Path.{◌≡◌, refl, ◌∙◌}
-use Prim.Native.Nat.{◌+◌, ◌-◌, ◌≤◌, ◌<◌}
+-- `json_scan::literal` meets its contract. Assumes nothing.
+use mathlib.Core.Path.{refl, ◌∙◌}
+use Prim.Native.Nat.{◌≤◌}
 use native.Mathlib.Omega.{arith}
-use lib.ListN.{length, drop}
-use Rattle.json_scan.specs.Json.{Stack, spelt, done}
-use Rattle.json_scan.specs.Meets.{run_at}
+use lib.ListN.{length}
+use Rattle.json_scan.specs.Json.{spelt, done}
 use Rattle.json_scan.proofs.Readers.{reads_is, spell_on, spell_end, spell_bad, spell_done}
-use Rattle.json_scan.proofs.step.literal.Reads as reads
-use Rattle.json_scan.proofs.step.literal.Lts as lts
-use Rattle.json_scan.proofs.step.bad.Reads as bad-reads
 use Rattle.json_scan.proofs.step.literal.Goals as goal
 
 pub loop-i-init : goal.loop-i-init

@@ -1,17 +1,10 @@
--- `json::skip` meets its contract: each byte that was passed is white space, and leaves a mode as it was that white space leaves so.
+-- `json_scan::skip` meets its contract: each byte that was passed is white space, and leaves a mode as it was that white space leaves so.
 -- Assumes nothing.
-use borrow.Author.Rules.{rules}
-use borrow.Author.Tests.{not-true, not-false}
-use mathlib.Core.Path.{◌≡◌, refl, sym, ap, ◌∙◌}
+use mathlib.Core.Path.{◌≡◌}
 use Prim.Native.Nat.{◌≤◌, ◌-◌, max}
-use native.Mathlib.Omega.{arith}
-use lib.ListN.{length, get_or-eq_default}
+use lib.ListN.{length}
 use Rattle.json_scan.specs.Json.{Mode, Stack, is_space}
 use Rattle.json_scan.specs.Meets.{run_at, Stays}
-use Rattle.json_scan.proofs.Laws.{hop}
-use Rattle.json_scan.proofs.step.skip.Reads as reads
-use Rattle.json_scan.proofs.step.skip.Lts as lts
-use Rattle.json_scan.proofs.byte.is_space.Reads as is-space-reads
 use Rattle.json_scan.proofs.step.skip.Given as goal
 
 abbrev pub invariant-loop-at : goal.invariant-loop-at

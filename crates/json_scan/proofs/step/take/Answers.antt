@@ -1,12 +1,8 @@
--- `json::take` meets its contract. Assumes nothing.
+-- `json_scan::take` meets its contract. Assumes nothing.
 use mathlib.Core.Path.{sym, ap, ◌∙◌}
 use mathlib.Core.Bool.{Bool}
 use native.Mathlib.Omega.{arith}
 use Rattle.json_scan.specs.Meets.{took}
-use borrow.Author.Rules.{rules}
-use Rattle.json_scan.proofs.step.take.Reads as reads
-use Rattle.json_scan.proofs.step.take.Lts as lts
-use Rattle.json_scan.proofs.step.bad.Reads as bad-reads
 use Rattle.json_scan.proofs.step.take.Goals as goal
 
 pub overflow_add-result : goal.overflow_add-result

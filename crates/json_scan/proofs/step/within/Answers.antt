@@ -1,16 +1,10 @@
--- `json::within` meets its contract. Assumes nothing.
+-- `json_scan::within` meets its contract. Assumes nothing.
 use mathlib.Core.Path.{sym, ap, ◌∙◌}
 use mathlib.Core.Bool.{Bool}
 use Rattle.ground.proofs.Laws.{byte_at_lem}
 use Rattle.json_scan.specs.Json.{inside}
 use Rattle.json_scan.specs.Meets.{took}
 use Rattle.json_scan.proofs.Readers.{lt_of_class, inside_zero}
-use borrow.Author.Rules.{rules}
-use Rattle.json_scan.proofs.step.within.Reads as reads
-use Rattle.json_scan.proofs.step.within.Lts as lts
-use Rattle.ground.proofs.byte_at.Reads as byte-at-reads
-use Rattle.json_scan.proofs.byte.inside.Reads as inside-reads
-use Rattle.json_scan.proofs.step.take.Reads as take-reads
 use Rattle.json_scan.proofs.step.within.Goals as goal
 
 pub take-requires : goal.take-requires

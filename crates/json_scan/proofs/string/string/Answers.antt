@@ -1,17 +1,11 @@
--- `json::string` meets its contract. Assumes nothing.
-use borrow.Author.Rules.{rules}
+-- `json_scan::string` meets its contract. Assumes nothing.
 use mathlib.Core.Path.{refl}
-use Prim.Native.Nat.{◌-◌, ◌≤◌, ◌<◌}
+use Prim.Native.Nat.{◌≤◌, ◌<◌}
 use native.Mathlib.Omega.{arith}
 use lib.ListN.{length}
 use Rattle.json_scan.specs.Json.{str, plain, closed}
 use Rattle.json_scan.proofs.Readers.{reads_is}
-use Rattle.json_scan.proofs.Strings.{Inner, inner_past, inner_shut, inner_on, inner_bad, inner_end}
-use Rattle.json_scan.proofs.string.string.Reads as reads
-use Rattle.json_scan.proofs.string.string.Lts as lts
-use Rattle.json_scan.proofs.step.bad.Reads as bad-reads
-use Rattle.json_scan.proofs.string.unescaped.Reads as unescaped-reads
-use Rattle.json_scan.proofs.string.piece.Reads as piece-reads
+use Rattle.json_scan.proofs.Strings.{inner_past, inner_shut, inner_on, inner_bad, inner_end}
 use Rattle.json_scan.proofs.string.string.Goals as goal
 
 pub loop-at-init : goal.loop-at-init
@@ -26,9 +20,6 @@ pub returns-then-b-eq34 : goal.returns-then-b-eq34
 returns-then-b-eq34 c =
     let i = inner_past c.args.text.now c.args.from c.loop-at.at c.loop-at.invariant _ c.unescaped-at.ensures in
     inner_shut c.args.text.now c.args.from _ i c.if-at-text.false c.if-b-eq34.true
-
-pub piece-requires : goal.piece-requires
-piece-requires c = (search rules, (refl, c.if-b-eq34.false))
 
 pub loop-at-smaller : goal.loop-at-smaller
 loop-at-smaller c =

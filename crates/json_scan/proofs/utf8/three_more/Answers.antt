@@ -1,12 +1,7 @@
--- `json::three_more` meets its contract. Assumes nothing.
+-- `json_scan::three_more` meets its contract. Assumes nothing.
 use mathlib.Core.Path.{sym, ap, ◌∙◌}
 use Rattle.json_scan.specs.Json.{inside}
 use Rattle.json_scan.specs.Meets.{then_one}
-use borrow.Author.Rules.{rules}
-use Rattle.json_scan.proofs.utf8.three_more.Reads as reads
-use Rattle.json_scan.proofs.utf8.three_more.Lts as lts
-use Rattle.json_scan.proofs.utf8.two_more.Reads as two-more-reads
-use Rattle.json_scan.proofs.step.within.Reads as within-reads
 use Rattle.json_scan.proofs.utf8.three_more.Goals as goal
 
 pub returns-in-Next : goal.returns-in-Next

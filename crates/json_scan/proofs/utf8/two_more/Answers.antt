@@ -1,11 +1,7 @@
--- `json::two_more` meets its contract. Assumes nothing.
+-- `json_scan::two_more` meets its contract. Assumes nothing.
 use mathlib.Core.Path.{sym, ap, ◌∙◌}
 use Rattle.json_scan.specs.Json.{inside}
 use Rattle.json_scan.specs.Meets.{then_one}
-use borrow.Author.Rules.{rules}
-use Rattle.json_scan.proofs.utf8.two_more.Reads as reads
-use Rattle.json_scan.proofs.utf8.two_more.Lts as lts
-use Rattle.json_scan.proofs.step.within.Reads as within-reads
 use Rattle.json_scan.proofs.utf8.two_more.Goals as goal
 
 pub returns-in-Next : goal.returns-in-Next

@@ -1,12 +1,7 @@
--- `json::colon` meets its contract. Assumes nothing.
+-- `json_scan::colon` meets its contract. Assumes nothing.
 use Rattle.json_scan.specs.Json.{colon, val}
 use Rattle.json_scan.proofs.Readers.{reads_is}
 use Rattle.json_scan.proofs.Keys.{after_space, colon_stays, colon_one}
-use borrow.Author.Rules.{rules}
-use Rattle.json_scan.proofs.value.colon.Reads as reads
-use Rattle.json_scan.proofs.value.colon.Lts as lts
-use Rattle.json_scan.proofs.step.byte.Reads as byte-Reads
-use Rattle.json_scan.proofs.step.skip.Reads as skip-reads
 use Rattle.json_scan.proofs.value.colon.Goals as goal
 
 pub returns : goal.returns

@@ -1,14 +1,7 @@
--- `json::key` meets its contract. Assumes nothing.
+-- `json_scan::key` meets its contract. Assumes nothing.
 use Rattle.json_scan.specs.Json.{key, colon, val, str, as_key, plain}
 use Rattle.json_scan.proofs.Readers.{reads_is, reads_then, reads_bad}
 use Rattle.json_scan.proofs.Keys.{after_space, key_stays, key_one}
-use borrow.Author.Rules.{rules}
-use Rattle.json_scan.proofs.value.key.Reads as reads
-use Rattle.json_scan.proofs.value.key.Lts as lts
-use Rattle.json_scan.proofs.step.byte.Reads as byte-Reads
-use Rattle.json_scan.proofs.value.colon.Reads as colon-reads
-use Rattle.json_scan.proofs.step.skip.Reads as skip-reads
-use Rattle.json_scan.proofs.string.string.Reads as string-reads
 use Rattle.json_scan.proofs.value.key.Goals as goal
 
 pub returns-in-Next-string : goal.returns-in-Next-string

@@ -1,13 +1,8 @@
--- `json::next_item` meets its contract. Assumes nothing.
-use borrow.Author.Rules.{rules}
+-- `json_scan::next_item` meets its contract. Assumes nothing.
 use mathlib.Core.Path.{sym, ◌∙◌}
 use native.Mathlib.Omega.{arith}
 use Rattle.ground.proofs.Laws.{byte_at_lem}
 use Rattle.json_scan.proofs.Items.{shut_here, more_here, none_here, lt_of_byte}
-use Rattle.json_scan.proofs.value.next_item.Reads as reads
-use Rattle.json_scan.proofs.value.next_item.Lts as lts
-use Rattle.ground.proofs.byte_at.Reads as byte-at-reads
-use Rattle.json_scan.proofs.step.skip.Reads as skip-reads
 use Rattle.json_scan.proofs.value.next_item.Goals as goal
 
 pub overflow_add-result : goal.overflow_add-result

@@ -1,4 +1,4 @@
--- `json::scalar` meets its contract. Assumes nothing.
+-- `json_scan::scalar` meets its contract. Assumes nothing.
 use mathlib.Core.Path.{sym, ap, subst, ◌∙◌}
 use Prim.Native.Nat.{ℕ}
 use native.Mathlib.Omega.{arith}
@@ -9,14 +9,6 @@ use Rattle.json_scan.specs.Meets.{Simple}
 use Rattle.json_scan.proofs.Items.{lt_of_byte}
 use Rattle.json_scan.proofs.Keys.{simple_on, simple_number, simple_bad}
 use Rattle.json_scan.proofs.Numbers.{no_digit}
-use borrow.Author.Rules.{rules}
-use Rattle.json_scan.proofs.value.scalar.Reads as reads
-use Rattle.json_scan.proofs.value.scalar.Lts as lts
-use Rattle.json_scan.proofs.step.bad.Reads as bad-reads
-use Rattle.json_scan.proofs.byte.inside.Reads as inside-reads
-use Rattle.json_scan.proofs.step.literal.Reads as literal-reads
-use Rattle.json_scan.proofs.number.number.Reads as number-reads
-use Rattle.json_scan.proofs.string.string.Reads as string-reads
 use Rattle.json_scan.proofs.value.scalar.Goals as goal
 
 pub overflow_add-at : goal.overflow_add-at

@@ -1,5 +1,4 @@
 -- `name::halves::has_dot` meets its contract. Assumes nothing.
-use borrow.Author.Rules.{rules}
 use Rattle.name.proofs.halves.Start.{dot_start}
 use Rattle.name.proofs.halves.has_dot.Goals as goal
 

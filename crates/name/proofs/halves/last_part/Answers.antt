@@ -1,5 +1,4 @@
 -- `name::halves::last_part` meets its contract. Assumes nothing.
-use borrow.Author.Rules.{rules}
 use Rattle.name.proofs.halves.Start.{start_within, lent_last}
 use Rattle.name.proofs.halves.last_part.Goals as goal
 

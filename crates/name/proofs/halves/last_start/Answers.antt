@@ -1,10 +1,5 @@
 -- `name::halves::last_start` meets its contract. The invariant: no dot stands from `i` on. Assumes nothing.
-use mathlib.Core.Path.{◌≡◌}
-use mathlib.Core.Bool.{false}
-use Prim.Native.Nat.{◌≤◌}
 use borrow.Author.Rules.{rules}
-use lib.ListN.{length, drop}
-use Rattle.name.specs.Name.{has_dot}
 use Rattle.name.proofs.halves.Start.{start_none, start_here, start_before, no_dot_left}
 use Rattle.name.proofs.halves.last_start.Goals as goal
 

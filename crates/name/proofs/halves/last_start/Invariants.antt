@@ -2,10 +2,8 @@
 use mathlib.Core.Path.{◌≡◌}
 use mathlib.Core.Bool.{false}
 use Prim.Native.Nat.{◌≤◌}
-use borrow.Author.Rules.{rules}
 use lib.ListN.{length, drop}
 use Rattle.name.specs.Name.{has_dot}
-use Rattle.name.proofs.halves.Start.{start_none, start_here, start_before, no_dot_left}
 use Rattle.name.proofs.halves.last_start.Given as goal
 
 abbrev pub invariant-loop-i : goal.invariant-loop-i

@@ -1,7 +1,6 @@
 -- `name::halves::namespace_part` meets its contract. Assumes nothing.
 use mathlib.Core.Path.{sym, ◌∙◌}
 use native.Mathlib.Omega.{arith}
-use borrow.Author.Rules.{rules}
 use Rattle.name.proofs.halves.Start.{start_within, lent_none, lent_namespace}
 use Rattle.name.proofs.halves.namespace_part.Goals as goal
 

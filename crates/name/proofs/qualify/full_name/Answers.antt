@@ -1,7 +1,6 @@
 -- `name::qualify::full_name` meets its contract: a law for each of its four ways out. Assumes nothing.
 use mathlib.Core.Path.{sym, ◌∙◌}
 use native.Mathlib.Omega.{arith}
-use borrow.Author.Rules.{rules}
 use Rattle.name.proofs.Laws.{lead_long}
 use Rattle.name.proofs.qualify.Kept.{kept_lead, kept_none, kept_written, kept_within}
 use Rattle.name.proofs.qualify.full_name.Goals as goal

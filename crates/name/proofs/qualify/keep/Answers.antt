@@ -1,7 +1,6 @@
 -- `name::qualify::keep` meets its contract. Assumes nothing.
 use Prim.Native.Nat.{◌<◌, ◌≤◌}
 use native.Mathlib.Omega.{arith}
-use borrow.Author.Rules.{rules}
 use lib.ListN.{length}
 use Rattle.name.proofs.qualify.Kept.{kept_long, kept_short}
 use Rattle.name.specs.Full.{kept_limit}

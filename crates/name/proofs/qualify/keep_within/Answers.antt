@@ -1,7 +1,6 @@
 -- `name::qualify::keep_within` meets its contract. Assumes nothing.
 use Prim.Native.Nat.{◌+◌, ◌<◌, ◌≤◌}
 use native.Mathlib.Omega.{arith}
-use borrow.Author.Rules.{rules}
 use lib.ListN.{length}
 use Rattle.name.proofs.qualify.Kept.{within_long, within_short}
 use Rattle.name.specs.Full.{kept_limit}

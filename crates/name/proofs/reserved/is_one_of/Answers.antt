@@ -1,7 +1,6 @@
 -- `name::reserved::is_one_of` meets its contract. Assumes nothing.
 use mathlib.Core.Path.{sym, ◌∙◌}
 use mathlib.Core.Bool.{or-false}
-use borrow.Author.Rules.{rules}
 use Rattle.name.specs.Name.{is_one_of}
 use Rattle.name.proofs.reserved.is_one_of.Goals as goal
 

@@ -1,6 +1,5 @@
 -- `name::reserved::is_reserved` meets its contract. Assumes nothing.
 use mathlib.Core.Path.{ap, ◌∙◌}
-use borrow.Author.Rules.{rules}
 use Rattle.name.specs.Name.{is_one_of, reserved_words, is_reserved}
 use Rattle.name.proofs.reserved.is_reserved.Goals as goal
 

@@ -1,6 +1,5 @@
 -- `name::reserved::is_reserved_word` meets its contract: only the words of a string's length count. Assumes nothing.
 use mathlib.Core.Path.{◌∙◌}
-use borrow.Author.Rules.{rules}
 use Rattle.name.proofs.reserved.Words.{reserved_3, reserved_4, reserved_5, reserved_6, reserved_7, reserved_other}
 use Rattle.name.proofs.reserved.is_reserved_word.Goals as goal
 

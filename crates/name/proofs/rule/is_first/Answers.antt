@@ -1,6 +1,5 @@
 -- `name::rule::is_first` meets its contract. Assumes nothing.
 use mathlib.Core.Path.{sym, ◌∙◌}
-use borrow.Author.Rules.{rules}
 use Rattle.name.specs.Name.{is_first}
 use Rattle.name.proofs.rule.is_first.Goals as goal
 

@@ -1,6 +1,5 @@
 -- `name::rule::is_later` meets its contract. Assumes nothing.
 use mathlib.Core.Path.{sym, ◌∙◌}
-use borrow.Author.Rules.{rules}
 use Rattle.name.specs.Name.{is_digit, is_later}
 use Rattle.name.proofs.rule.is_later.Goals as goal
 

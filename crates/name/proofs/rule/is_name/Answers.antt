@@ -1,7 +1,6 @@
 -- `name::rule::is_name` meets its contract. Assumes nothing.
 use mathlib.Core.Path.{sym, ◌∙◌}
 use native.Mathlib.Omega.{arith}
-use borrow.Author.Rules.{rules}
 use Rattle.name.proofs.Laws.{lead_long, name_else}
 use Rattle.name.proofs.Bytewise.{name_tail}
 use Rattle.name.proofs.rule.is_name.Goals as goal

@@ -1,6 +1,5 @@
 -- `name::rule::is_namespace` meets its contract. Assumes nothing.
 use mathlib.Core.Path.{◌∙◌}
-use borrow.Author.Rules.{rules}
 use Rattle.name.proofs.Bytewise.{namespace_none, namespace_some}
 use Rattle.name.proofs.rule.is_namespace.Goals as goal
 

@@ -1,11 +1,6 @@
 -- `name::rule::keeps_rule` meets its contract. The invariant: what is left keeps the rule where the whole does. Assumes nothing.
-use mathlib.Core.Path.{◌≡◌, sym, ◌∙◌}
-use mathlib.Core.Bool.{cond}
-use Prim.Native.Nat.{◌-◌}
-use borrow.Author.Rules.{rules}
-use lib.ListN.{length, drop}
-use Rattle.name.specs.Name.{is_simple, is_dotted}
-use Rattle.name.proofs.Bytewise.{keeps, keeps_either, keeps_end, keeps_not, keeps_next}
+use mathlib.Core.Path.{sym, ◌∙◌}
+use Rattle.name.proofs.Bytewise.{keeps_either, keeps_end, keeps_not, keeps_next}
 use Rattle.name.proofs.rule.keeps_rule.Goals as goal
 
 pub loop-i-init : goal.loop-i-init

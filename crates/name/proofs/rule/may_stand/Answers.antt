@@ -1,6 +1,5 @@
 -- `name::rule::may_stand` meets its contract. Assumes nothing.
 use mathlib.Core.Path.{sym, ◌∙◌}
-use borrow.Author.Rules.{rules}
 use borrow.Author.Tests.{eq-eqb, ne_eqb}
 use Rattle.name.specs.Rule.{may_stand}
 use Rattle.name.proofs.Bytewise.{letter_stands}

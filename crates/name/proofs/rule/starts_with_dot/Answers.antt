@@ -1,5 +1,4 @@
 -- `name::rule::starts_with_dot` meets its contract. Assumes nothing.
-use borrow.Author.Rules.{rules}
 use Rattle.name.proofs.Bytewise.{lead_none, lead_byte}
 use Rattle.name.proofs.rule.starts_with_dot.Goals as goal
 

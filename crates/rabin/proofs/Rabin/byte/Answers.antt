@@ -1,10 +1,10 @@
 -- `rabin::Rabin::byte` meets its contract: the state is read from its field and back by its bits.
 -- Assumes nothing.
 use native.Mathlib.Omega.{arith}
-use borrow.Author.Rules.{rules, sfits_of}
+use borrow.Author.Rules.{sfits_of}
 use mir.Syntax.{w64}
 use mir.Facts.{to_z-of_z}
 use Rattle.rabin.proofs.Rabin.byte.Goals as goal
 
 pub returns : goal.returns
-returns c = cc (to_z-of_z {w = w64} {z = c.args.self.state} (sfits_of (omega arith)), to_z-of_z (sfits_of c.step.type-inv))
+returns c = cc (to_z-of_z {w = w64} {z = c.args.self.state} (sfits_of (omega arith)), to_z-of_z (sfits_of c.step.type_inv))

@@ -1,7 +1,7 @@
 -- `rabin::Rabin::bytes` meets its contract: the state is read from its field by its bits.
 -- Assumes nothing.
 use native.Mathlib.Omega.{arith}
-use borrow.Author.Rules.{rules, sfits_of}
+use borrow.Author.Rules.{sfits_of}
 use mir.Syntax.{w64}
 use mir.Facts.{to_z-of_z}
 use Rattle.rabin.proofs.Rabin.bytes.Goals as goal

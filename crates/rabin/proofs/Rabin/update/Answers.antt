@@ -1,13 +1,12 @@
 -- `rabin::Rabin::update` meets its contract: the fingerprint of what is left, from here, is the whole one.
 -- Assumes nothing.
-use mathlib.Core.Path.{◌≡◌, refl, ap, ◌∙◌}
-use Prim.Native.Nat.{◌≤◌, ◌-◌}
+use mathlib.Core.Path.{refl, ap, ◌∙◌}
 use native.Mathlib.Omega.{arith}
 use lib.IntN.{ℤ}
-use lib.ListN.{length, drop}
-use borrow.Author.Rules.{rules, sfits_of}
+use borrow.Author.Rules.{sfits_of}
+use mir.Syntax.{w64}
 use mir.Facts.{to_z-of_z}
-use Rattle.rabin.specs.Rabin.{signed_of, rabin_from}
+use Rattle.rabin.specs.Rabin.{rabin_from}
 use Rattle.rabin.proofs.Loop.{fold_next, fold_end}
 use Rattle.rabin.proofs.Rabin.update.Goals as goal
 
@@ -27,7 +26,7 @@ pub loop-i-smaller : goal.loop-i-smaller
 loop-i-smaller c = omega arith
 
 pub loop-i-preserved : goal.loop-i-preserved
-loop-i-preserved c = (omega arith, fold_next _ _ _ c.loop-i.i (omega arith) (to_z-of_z (sfits_of c.step-s.type-inv) ∙ c.step-s.ensures) ∙ c.loop-i.invariant.1)
+loop-i-preserved c = (omega arith, fold_next _ _ _ c.loop-i.i (omega arith) (to_z-of_z {w = w64} (sfits_of c.step-s.type_inv) ∙ c.step-s.ensures) ∙ c.loop-i.invariant.1)
 
 pub returns : goal.returns
-returns c = fold_end _ c.args.bytes.now c.loop-i.i (omega arith) ∙ c.loop-i.invariant.1 ∙ ap (λ (z : ℤ). rabin_from z c.args.bytes.now) (to_z-of_z {z = c.args.self.state} (sfits_of (omega arith)))
+returns c = fold_end _ c.args.bytes.now c.loop-i.i (omega arith) ∙ c.loop-i.invariant.1 ∙ ap (λ (z : ℤ). rabin_from z c.args.bytes.now) (to_z-of_z {w = w64} {z = c.args.self.state} (sfits_of (omega arith)))

@@ -1,7 +1,6 @@
 -- `rabin::octets::octets` meets its contract.
 -- Assumes nothing.
 use mathlib.Core.Path.{◌∙◌}
-use borrow.Author.Rules.{rules}
 use mir.Facts.{to_z-of_z}
 use Rattle.rabin.proofs.Digits.{eight}
 use Rattle.rabin.proofs.octets.octets.Goals as goal

@@ -5,7 +5,6 @@ use mathlib.Core.Path.{sym, ap, ◌∙◌}
 use Prim.Native.Nat.{ℕ}
 use lib.Dec.{eqb}
 use Rattle.resolve.specs.Rules.{is_at}
-use borrow.Author.Rules.{rules}
 use Rattle.resolve.proofs.clash.is_at.Goals as goal
 
 pub returns-then-is_kind : goal.returns-then-is_kind

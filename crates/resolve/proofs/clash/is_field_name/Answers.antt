@@ -1,7 +1,6 @@
 -- `resolve::clash::is_field_name` meets its contract.
 -- Assumes nothing.
 use mathlib.Core.Path.{sym, ◌∙◌}
-use borrow.Author.Rules.{rules}
 use Rattle.resolve.specs.Rules.{is_field_name}
 use Rattle.resolve.proofs.clash.is_field_name.Goals as goal
 

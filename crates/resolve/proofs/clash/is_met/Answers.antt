@@ -1,15 +1,10 @@
 -- `resolve::clash::is_met` meets its contract: the answer for the chain that is left is the answer.
 -- Assumes nothing.
-use mathlib.Core.Path.{◌≡◌, sym, ap, ◌∙◌}
-use Prim.Native.Nat.{◌≤◌}
+use mathlib.Core.Path.{sym, ap, ◌∙◌}
 use native.Mathlib.Omega.{arith}
-use lib.ListN.{get_or}
 use Rattle.chains.proofs.Laws.{walk_far, walk_hit, walk_on, walk_none}
 use Rattle.chains.specs.Chains.{on_chain}
-use Rattle.row.specs.Memory.{entry_at}
-use Rattle.resolve.specs.Steps.{meets_at}
 use Rattle.resolve.proofs.ChainLaws.{meets_is, meets_low}
-use borrow.Author.Rules.{rules}
 use Rattle.resolve.proofs.clash.is_met.Goals as goal
 
 pub loop-h-init : goal.loop-h-init

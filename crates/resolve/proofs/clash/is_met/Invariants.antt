@@ -1,15 +1,11 @@
 -- `resolve::clash::is_met` meets its contract: the answer for the chain that is left is the answer.
 -- Assumes nothing.
-use mathlib.Core.Path.{◌≡◌, sym, ap, ◌∙◌}
+use mathlib.Core.Path.{◌≡◌}
 use Prim.Native.Nat.{◌≤◌}
-use native.Mathlib.Omega.{arith}
 use lib.ListN.{get_or}
-use Rattle.chains.proofs.Laws.{walk_far, walk_hit, walk_on, walk_none}
 use Rattle.chains.specs.Chains.{on_chain}
 use Rattle.row.specs.Memory.{entry_at}
 use Rattle.resolve.specs.Steps.{meets_at}
-use Rattle.resolve.proofs.ChainLaws.{meets_is, meets_low}
-use borrow.Author.Rules.{rules}
 use Rattle.resolve.proofs.clash.is_met.Given as goal
 
 abbrev pub invariant-loop-h : goal.invariant-loop-h

@@ -1,7 +1,6 @@
 -- `resolve::clash::is_ruled` meets its contract.
 -- Assumes nothing.
 use mathlib.Core.Path.{sym, ◌∙◌}
-use borrow.Author.Rules.{rules}
 use Rattle.resolve.specs.Steps.{is_ruled}
 use Rattle.resolve.proofs.clash.is_ruled.Goals as goal
 

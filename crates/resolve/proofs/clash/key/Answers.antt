@@ -4,7 +4,6 @@ use Rattle.row.specs.Memory.{entry_at}
 use mathlib.Core.Path.{sym, ap, ◌∙◌}
 use Rattle.chains.specs.Marks.{mark_of}
 use Rattle.resolve.specs.Steps.{key_of}
-use borrow.Author.Rules.{rules}
 use Rattle.resolve.proofs.clash.key.Goals as goal
 
 pub returns-then-told_by_name : goal.returns-then-told_by_name

@@ -4,7 +4,6 @@ use mathlib.Core.Path.{sym, ap, ◌∙◌}
 use Prim.Native.Nat.{ℕ, ◌+◌}
 use lib.Dec.{eqb}
 use Rattle.resolve.specs.Steps.{may_meet}
-use borrow.Author.Rules.{rules}
 use Rattle.resolve.proofs.clash.may_meet.Goals as goal
 
 pub returns-then-is_kind : goal.returns-then-is_kind

@@ -1,20 +1,14 @@
 -- `resolve::clash::no_clash` meets its contract: the answer for the rows that are left, behind those that have passed, is the answer.
 -- Assumes nothing.
-use mathlib.Core.Path.{◌≡◌, refl, sym, ◌∙◌}
-use Prim.Native.Nat.{◌+◌, ◌-◌, ◌≤◌}
+use mathlib.Core.Path.{refl, sym, ◌∙◌}
 use native.Mathlib.Omega.{arith}
-use borrow.Author.Tests.{not-true}
-use Rattle.row.specs.Sets.{rows_from}
-use Rattle.row.specs.Memory.{entry_at, row_at}
-use Rattle.resolve.specs.Rules.{clash, no_clash}
-use Rattle.resolve.specs.Steps.{none_met, Sized, KeepsUnder}
-use Rattle.resolve.proofs.TreeLaws.{below, unruled}
+use Rattle.resolve.proofs.TreeLaws.{unruled}
 use Rattle.resolve.proofs.ChainLaws.{under_none, under_past, clash_start, clash_end, clash_stop, clash_hit, clash_more, clash_past}
 use borrow.Author.Rules.{rules}
 use Rattle.resolve.proofs.clash.no_clash.Goals as goal
 
 pub returns-then-not-is_ruled : goal.returns-then-not-is_ruled
-returns-then-not-is_ruled c = (unruled _ _ _ _ refl (sym (c.is_ruled.ensures _ c.kind_number-kind.ensures) ∙ not-true _ c.if-not-is_ruled.true-raw), c.requires.3)
+returns-then-not-is_ruled c = (unruled _ _ _ _ refl (sym (c.is_ruled.ensures _ c.kind_number-kind.ensures) ∙ c.if-not-is_ruled.true), c.requires.3)
 
 pub loop-j-init : goal.loop-j-init
 loop-j-init c = (search rules, search rules, c.requires.3, under_none _ _ _ _ _ _, clash_start _ _ _ _ _ refl c.depth_at-depth.ensures.0)
@@ -29,7 +23,7 @@ pub returns-then-depth_at-depth : goal.returns-then-depth_at-depth
 returns-then-depth_at-depth c = (clash_stop _ _ _ _ _ _ _ c.loop-j.invariant.4 c.loop-j-test.true _ c.depth_at.ensures.0 c.if-depth_at-depth.true, c.loop-j.invariant.2)
 
 pub loop-j-preserved-then-not-may_meet : goal.loop-j-preserved-then-not-may_meet
-loop-j-preserved-then-not-may_meet c = (search rules, search rules, c.loop-j.invariant.2, under_past _ _ _ _ _ _ _ c.loop-j.invariant.3 (sym (c.may_meet.ensures _ c.kind_number-kind.ensures) ∙ not-true _ c.if-not-may_meet.true-raw), clash_past _ _ _ _ _ _ _ c.loop-j.invariant.4 c.loop-j-test.true _ c.depth_at.ensures.0 (omega arith) (omega arith) (sym (c.may_meet.ensures _ c.kind_number-kind.ensures) ∙ not-true _ c.if-not-may_meet.true-raw))
+loop-j-preserved-then-not-may_meet c = (search rules, search rules, c.loop-j.invariant.2, under_past _ _ _ _ _ _ _ c.loop-j.invariant.3 (sym (c.may_meet.ensures _ c.kind_number-kind.ensures) ∙ c.if-not-may_meet.true), clash_past _ _ _ _ _ _ _ c.loop-j.invariant.4 c.loop-j-test.true _ c.depth_at.ensures.0 (omega arith) (omega arith) (sym (c.may_meet.ensures _ c.kind_number-kind.ensures) ∙ c.if-not-may_meet.true))
 
 pub meets_earlier-requires : goal.meets_earlier-requires
 meets_earlier-requires c = (search rules, search rules, search rules, search rules, c.loop-j.invariant.2, c.kind_number-kind.ensures, c.loop-j.invariant.3)

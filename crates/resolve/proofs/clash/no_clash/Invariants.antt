@@ -1,16 +1,12 @@
 -- `resolve::clash::no_clash` meets its contract: the answer for the rows that are left, behind those that have passed, is the answer.
 -- Assumes nothing.
-use mathlib.Core.Path.{◌≡◌, refl, sym, ◌∙◌}
+use mathlib.Core.Path.{◌≡◌}
 use Prim.Native.Nat.{◌+◌, ◌-◌, ◌≤◌}
-use native.Mathlib.Omega.{arith}
-use borrow.Author.Tests.{not-true}
 use Rattle.row.specs.Sets.{rows_from}
 use Rattle.row.specs.Memory.{entry_at, row_at}
 use Rattle.resolve.specs.Rules.{clash, no_clash}
 use Rattle.resolve.specs.Steps.{none_met, Sized, KeepsUnder}
-use Rattle.resolve.proofs.TreeLaws.{below, unruled}
-use Rattle.resolve.proofs.ChainLaws.{under_none, under_past, clash_start, clash_end, clash_stop, clash_hit, clash_more, clash_past}
-use borrow.Author.Rules.{rules}
+use Rattle.resolve.proofs.TreeLaws.{below}
 use Rattle.resolve.proofs.clash.no_clash.Given as goal
 
 abbrev pub invariant-loop-j : goal.invariant-loop-j

@@ -1,7 +1,6 @@
 -- `resolve::clash::same_member` meets its contract.
 -- Assumes nothing.
 use mathlib.Core.Path.{sym, ◌∙◌}
-use borrow.Author.Rules.{rules}
 use borrow.Author.Tests.{eq-eqb, ne_eqb}
 use Rattle.resolve.specs.Rules.{same_member}
 use Rattle.resolve.proofs.clash.same_member.Goals as goal

@@ -5,7 +5,6 @@ use lib.Dec.{eqb}
 use Rattle.row.specs.Memory.{entry_at}
 use Rattle.resolve.specs.Kinds.{is_kind}
 use Rattle.resolve.specs.Rules.{same_schema}
-use borrow.Author.Rules.{rules}
 use Rattle.resolve.proofs.clash.same_schema.Goals as goal
 
 pub returns-then-is_named-2 : goal.returns-then-is_named-2

@@ -1,6 +1,5 @@
 -- `resolve::clash::same_text` meets its contract.
 -- Assumes nothing.
-use borrow.Author.Rules.{rules}
 use Rattle.resolve.proofs.clash.same_text.Goals as goal
 
 pub returns : goal.returns

@@ -2,7 +2,6 @@
 -- Assumes nothing.
 use mathlib.Core.Path.{sym, ◌∙◌}
 use Rattle.resolve.specs.Steps.{told_by_name}
-use borrow.Author.Rules.{rules}
 use Rattle.resolve.proofs.clash.told_by_name.Goals as goal
 
 pub returns-then-is_kind : goal.returns-then-is_kind

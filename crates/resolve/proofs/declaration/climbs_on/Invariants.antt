@@ -1,11 +1,9 @@
 -- `resolve::declaration::climbs_on` meets its contract: the answer for the rows that are left, behind the depth of the last, is the answer.
 -- Assumes nothing.
-use mathlib.Core.Path.{◌≡◌, refl}
+use mathlib.Core.Path.{◌≡◌}
 use Prim.Native.Nat.{◌-◌, ◌≤◌, ◌<◌}
-use borrow.Author.Rules.{rules}
 use Rattle.row.specs.Sets.{rows_from}
 use Rattle.resolve.specs.Rules.{climbs}
-use Rattle.resolve.proofs.TreeLaws.{climb_end, climb_top, climb_far, climb_more}
 use Rattle.resolve.proofs.declaration.climbs_on.Given as goal
 
 abbrev pub invariant-loop-i : goal.invariant-loop-i

@@ -1,11 +1,6 @@
 -- `resolve::declaration::good_rows` meets its contract: the answer for the rows that are left is the answer.
 -- Assumes nothing.
-use mathlib.Core.Path.{◌≡◌, refl, sym, ◌∙◌}
-use Prim.Native.Nat.{◌-◌, ◌≤◌}
-use borrow.Author.Tests.{not-true, not-false}
-use Rattle.row.specs.Sets.{rows_from}
-use Rattle.resolve.specs.Rules.{good_rows}
-use Rattle.resolve.specs.Steps.{Sized}
+use mathlib.Core.Path.{refl, sym, ◌∙◌}
 use Rattle.resolve.proofs.TreeLaws.{good_end, good_bad, good_more}
 use borrow.Author.Rules.{rules}
 use Rattle.resolve.proofs.declaration.good_rows.Goals as goal
@@ -23,10 +18,10 @@ pub shape_of-next-then-not-good_row : goal.shape_of-next-then-not-good_row
 shape_of-next-then-not-good_row c = c.good_row.ensures.1.nexts ∙ sym c.requires.3.nexts
 
 pub returns-then-not-good_row : goal.returns-then-not-good_row
-returns-then-not-good_row c = (good_bad _ _ _ _ c.loop-i.invariant.3 c.loop-i-test.true (sym c.good_row.ensures.0 ∙ not-true _ c.if-not-good_row.true-raw), c.good_row.ensures.1)
+returns-then-not-good_row c = (good_bad _ _ _ _ c.loop-i.invariant.3 c.loop-i-test.true (sym c.good_row.ensures.0 ∙ c.if-not-good_row.true), c.good_row.ensures.1)
 
 pub loop-i-preserved : goal.loop-i-preserved
-loop-i-preserved c = (search rules, search rules, c.good_row.ensures.1, good_more _ _ _ _ c.loop-i.invariant.3 c.loop-i-test.true (sym c.good_row.ensures.0 ∙ not-false _ c.if-not-good_row.false-raw))
+loop-i-preserved c = (search rules, search rules, c.good_row.ensures.1, good_more _ _ _ _ c.loop-i.invariant.3 c.loop-i-test.true (sym c.good_row.ensures.0 ∙ c.if-not-good_row.false))
 
 pub shape_of-first : goal.shape_of-first
 shape_of-first c = c.loop-i.invariant.2.firsts ∙ sym c.requires.3.firsts

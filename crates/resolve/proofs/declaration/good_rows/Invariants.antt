@@ -1,13 +1,10 @@
 -- `resolve::declaration::good_rows` meets its contract: the answer for the rows that are left is the answer.
 -- Assumes nothing.
-use mathlib.Core.Path.{◌≡◌, refl, sym, ◌∙◌}
+use mathlib.Core.Path.{◌≡◌}
 use Prim.Native.Nat.{◌-◌, ◌≤◌}
-use borrow.Author.Tests.{not-true, not-false}
 use Rattle.row.specs.Sets.{rows_from}
 use Rattle.resolve.specs.Rules.{good_rows}
 use Rattle.resolve.specs.Steps.{Sized}
-use Rattle.resolve.proofs.TreeLaws.{good_end, good_bad, good_more}
-use borrow.Author.Rules.{rules}
 use Rattle.resolve.proofs.declaration.good_rows.Given as goal
 
 abbrev pub invariant-loop-i : goal.invariant-loop-i

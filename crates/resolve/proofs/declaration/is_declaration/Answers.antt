@@ -1,6 +1,5 @@
 -- `resolve::declaration::is_declaration` meets its contract.
 -- Assumes nothing.
-use borrow.Author.Rules.{rules}
 use Rattle.resolve.proofs.declaration.is_declaration.Goals as goal
 
 pub returns : goal.returns

@@ -2,7 +2,6 @@
 -- Assumes nothing.
 use mathlib.Core.Path.{sym, ◌∙◌}
 use Rattle.resolve.proofs.DefaultLaws.{default_none, default_field, default_other}
-use borrow.Author.Rules.{rules}
 use Rattle.resolve.proofs.defaults.good_default.Goals as goal
 
 pub returns-then-default-eq0 : goal.returns-then-default-eq0

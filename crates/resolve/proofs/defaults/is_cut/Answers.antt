@@ -4,7 +4,6 @@ use mathlib.Core.Path.{sym, ap, ◌∙◌}
 use mathlib.Core.Bool.{not}
 use Rattle.json_scan.specs.Json.{is_space}
 use Rattle.resolve.proofs.DefaultLaws.{cut_none}
-use borrow.Author.Rules.{rules}
 use Rattle.resolve.proofs.defaults.is_cut.Goals as goal
 
 pub returns-then-text-eq0 : goal.returns-then-text-eq0

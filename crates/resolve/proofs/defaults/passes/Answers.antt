@@ -2,7 +2,6 @@
 -- Assumes nothing.
 use mathlib.Core.Path.{sym, ap, ◌∙◌}
 use Rattle.resolve.specs.Rules.{passes}
-use borrow.Author.Rules.{rules}
 use Rattle.resolve.proofs.defaults.passes.Goals as goal
 
 pub returns-in-Whole : goal.returns-in-Whole

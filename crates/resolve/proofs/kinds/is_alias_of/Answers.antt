@@ -2,7 +2,6 @@
 -- Assumes nothing.
 use mathlib.Core.Path.{sym, ◌∙◌}
 use Rattle.resolve.specs.Kinds.{is_alias_of}
-use borrow.Author.Rules.{rules}
 use Rattle.resolve.proofs.kinds.is_alias_of.Goals as goal
 
 pub returns-then-is_definition : goal.returns-then-is_definition

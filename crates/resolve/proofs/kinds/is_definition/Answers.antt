@@ -2,7 +2,6 @@
 -- Assumes nothing.
 use mathlib.Core.Path.{sym, ◌∙◌}
 use Rattle.resolve.specs.Kinds.{is_definition}
-use borrow.Author.Rules.{rules}
 use Rattle.resolve.proofs.kinds.is_definition.Goals as goal
 
 pub returns-then-is_kind : goal.returns-then-is_kind

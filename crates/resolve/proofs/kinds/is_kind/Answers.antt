@@ -1,7 +1,6 @@
 -- `resolve::kinds::is_kind` meets its contract.
 -- Assumes nothing.
 use Rattle.resolve.specs.Kinds.{is_kind}
-use borrow.Author.Rules.{rules}
 use Rattle.resolve.proofs.kinds.is_kind.Goals as goal
 
 pub returns : goal.returns

@@ -2,7 +2,6 @@
 -- Assumes nothing.
 use borrow.Author.Tests.{eq-eqb, ne_eqb}
 use Rattle.resolve.specs.Steps.{is_leading}
-use borrow.Author.Rules.{rules}
 use Rattle.resolve.proofs.kinds.is_leading.Goals as goal
 
 pub returns-then-parts-ne0 : goal.returns-then-parts-ne0

@@ -1,7 +1,6 @@
 -- `resolve::kinds::is_member` meets its contract.
 -- Assumes nothing.
 use mathlib.Core.Path.{sym, ◌∙◌}
-use borrow.Author.Rules.{rules}
 use Rattle.resolve.proofs.kinds.is_member.Goals as goal
 
 pub returns-then-is_kind : goal.returns-then-is_kind

@@ -2,7 +2,6 @@
 -- Assumes nothing.
 use mathlib.Core.Path.{sym, ◌∙◌}
 use Rattle.resolve.specs.Kinds.{is_named}
-use borrow.Author.Rules.{rules}
 use Rattle.resolve.proofs.kinds.is_named.Goals as goal
 
 pub returns-then-is_definition : goal.returns-then-is_definition

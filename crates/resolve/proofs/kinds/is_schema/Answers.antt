@@ -1,7 +1,6 @@
 -- `resolve::kinds::is_schema` meets its contract.
 -- Assumes nothing.
 use Rattle.resolve.proofs.KindLaws.{schema_number}
-use borrow.Author.Rules.{rules}
 use Rattle.resolve.proofs.kinds.is_schema.Goals as goal
 
 pub returns : goal.returns

@@ -2,7 +2,6 @@
 -- Assumes nothing.
 use mathlib.Core.Path.{sym, ◌∙◌}
 use Rattle.resolve.specs.Steps.{may_end}
-use borrow.Author.Rules.{rules}
 use Rattle.resolve.proofs.kinds.may_end.Goals as goal
 
 pub returns-then-has_one : goal.returns-then-has_one

@@ -2,9 +2,7 @@
 -- Assumes nothing.
 use Prim.Native.Nat.{◌-◌, ◌≤◌}
 use mathlib.Core.Path.{◌≡◌}
-use borrow.Author.Rules.{rules}
 use Rattle.resolve.specs.Resolve.{definition_in}
-use Rattle.resolve.proofs.ResolveLaws.{definition_start, definition_hit, definition_more, definition_end}
 use Rattle.row.specs.Sets.{rows_from}
 use Rattle.row.specs.Memory.{text_at}
 use Rattle.resolve.proofs.names.definition_of.Given as goal

@@ -3,7 +3,6 @@
 use Rattle.row.specs.Memory.{entry_at}
 use mathlib.Core.Path.{sym, ◌∙◌}
 use Rattle.resolve.specs.Steps.{first_with, next_with}
-use borrow.Author.Rules.{rules}
 use Rattle.resolve.proofs.names.enter_row.Goals as goal
 
 pub returns-then-is_definition : goal.returns-then-is_definition

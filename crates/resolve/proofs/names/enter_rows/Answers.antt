@@ -1,8 +1,6 @@
 -- `resolve::names::enter_rows` meets its contract: the definitions before each row are entered.
 -- Assumes nothing.
 use mathlib.Core.Path.{sym, ◌∙◌}
-use Prim.Native.Nat.{◌-◌, ◌≤◌}
-use Rattle.resolve.specs.Steps.{Sized, KeepsNames}
 use Rattle.resolve.proofs.LineLaws.{line_none, line_first, line_all, line_more, sized_with}
 use borrow.Author.Rules.{rules}
 use Rattle.resolve.proofs.names.enter_rows.Goals as goal

@@ -4,7 +4,6 @@ use mathlib.Core.Path.{sym, ap, ◌∙◌}
 use Rattle.resolve.specs.Resolve.{is_defined}
 use Rattle.resolve.proofs.LineLaws.{chain_defined}
 use Rattle.resolve.proofs.ResolveLaws.{fault_twice, fault_new, fault_known, fault_unknown, fault_other}
-use borrow.Author.Rules.{rules}
 use Rattle.resolve.proofs.names.fault_of.Goals as goal
 
 pub returns-then-is_known : goal.returns-then-is_known

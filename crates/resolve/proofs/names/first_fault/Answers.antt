@@ -1,12 +1,7 @@
 -- `resolve::names::first_fault` meets its contract: the first fault of the rows that are left, behind those that have passed, is the first fault.
 -- Assumes nothing.
-use mathlib.Core.Path.{◌≡◌}
-use mathlib.Core.List.{◌++◌}
-use Prim.Native.Nat.{◌+◌, ◌-◌, ◌≤◌}
 use native.Mathlib.Omega.{arith}
 use Rattle.row.specs.Sets.{rows_from}
-use Rattle.resolve.specs.Resolve.{fault_in}
-use Rattle.resolve.specs.Steps.{Sized, KeepsNames}
 use Rattle.resolve.proofs.LineLaws.{line_begin, line_next, sized_with}
 use Rattle.resolve.proofs.ResolveLaws.{fault_start, fault_hit, fault_more, fault_end}
 use borrow.Author.Rules.{rules}

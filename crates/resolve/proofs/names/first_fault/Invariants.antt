@@ -3,13 +3,9 @@
 use mathlib.Core.Path.{◌≡◌}
 use mathlib.Core.List.{◌++◌}
 use Prim.Native.Nat.{◌+◌, ◌-◌, ◌≤◌}
-use native.Mathlib.Omega.{arith}
 use Rattle.row.specs.Sets.{rows_from}
 use Rattle.resolve.specs.Resolve.{fault_in}
 use Rattle.resolve.specs.Steps.{Sized, KeepsNames}
-use Rattle.resolve.proofs.LineLaws.{line_begin, line_next, sized_with}
-use Rattle.resolve.proofs.ResolveLaws.{fault_start, fault_hit, fault_more, fault_end}
-use borrow.Author.Rules.{rules}
 use Rattle.resolve.proofs.names.first_fault.Given as goal
 
 abbrev pub invariant-loop-passed : goal.invariant-loop-passed

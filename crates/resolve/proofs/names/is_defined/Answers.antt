@@ -1,10 +1,7 @@
 -- `resolve::names::is_defined` meets its contract: the answer for the rows that are left is the answer.
 -- Assumes nothing.
-use mathlib.Core.Path.{◌≡◌, sym, ◌∙◌}
-use Prim.Native.Nat.{◌+◌, ◌-◌, ◌≤◌}
+use mathlib.Core.Path.{sym, ◌∙◌}
 use borrow.Author.Rules.{rules}
-use Rattle.row.specs.Sets.{rows_from}
-use Rattle.resolve.specs.Resolve.{is_defined}
 use Rattle.resolve.proofs.MemoryLaws.{rows_all}
 use Rattle.resolve.proofs.ResolveLaws.{defined_hit, defined_more, defined_end}
 use Rattle.resolve.proofs.names.is_defined.Goals as goal

@@ -1,13 +1,11 @@
 -- `resolve::names::is_known` meets its contract: the answer for the chain that is left is the answer.
 -- Assumes nothing.
-use mathlib.Core.Path.{◌≡◌, sym, ap, ◌∙◌}
-use Prim.Native.Nat.{ℕ, ◌+◌, ◌≤◌}
+use mathlib.Core.Path.{sym, ap, ◌∙◌}
+use Prim.Native.Nat.{ℕ}
 use native.Mathlib.Omega.{arith}
 use lib.ListN.{get_or}
 use Rattle.chains.proofs.Laws.{walk_far, walk_hit, walk_on, walk_none}
 use Rattle.chains.specs.Chains.{slot_of, on_chain}
-use Rattle.chains.specs.Marks.{mark_of}
-use Rattle.resolve.specs.Steps.{is_named_at}
 use borrow.Author.Rules.{rules}
 use Rattle.resolve.proofs.names.is_known.Goals as goal
 

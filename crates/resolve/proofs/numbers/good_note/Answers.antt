@@ -2,7 +2,6 @@
 -- Assumes nothing.
 use mathlib.Core.Path.{sym, ◌∙◌}
 use Rattle.resolve.specs.Rules.{good_note}
-use borrow.Author.Rules.{rules}
 use Rattle.resolve.proofs.numbers.good_note.Goals as goal
 
 pub returns-then-is_kind : goal.returns-then-is_kind

@@ -9,7 +9,6 @@ use Rattle.json_scan.specs.Json.{longest}
 use Rattle.row.specs.Memory.{entry_at}
 use Rattle.resolve.specs.Rules.{good_size}
 use Rattle.resolve.proofs.TreeLaws.{zero_size, no_size, position_size}
-use borrow.Author.Rules.{rules}
 use Rattle.resolve.proofs.numbers.good_size.Goals as goal
 
 pub returns-then-size-eq0 : goal.returns-then-size-eq0

@@ -1,7 +1,6 @@
 -- `resolve::strings::defines_or_alias` meets its contract.
 -- Assumes nothing.
 use mathlib.Core.Path.{sym, ◌∙◌}
-use borrow.Author.Rules.{rules}
 use Rattle.resolve.proofs.strings.defines_or_alias.Goals as goal
 
 pub returns-then-is_definition : goal.returns-then-is_definition

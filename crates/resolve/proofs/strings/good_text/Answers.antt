@@ -3,7 +3,6 @@
 use mathlib.Core.Path.{sym, ◌∙◌}
 use Rattle.resolve.proofs.RuleLaws.{no_bytes}
 use Rattle.resolve.specs.Rules.{good_text}
-use borrow.Author.Rules.{rules}
 use Rattle.resolve.proofs.strings.good_text.Goals as goal
 
 pub returns-then-defines_or_alias : goal.returns-then-defines_or_alias

@@ -1,7 +1,6 @@
 -- `resolve::strings::has_own_name` meets its contract.
 -- Assumes nothing.
 use mathlib.Core.Path.{sym, ◌∙◌}
-use borrow.Author.Rules.{rules}
 use Rattle.resolve.proofs.strings.has_own_name.Goals as goal
 
 pub returns-then-is_kind : goal.returns-then-is_kind

@@ -2,7 +2,6 @@
 -- Assumes nothing.
 use mathlib.Core.Path.{sym, ap, ◌∙◌}
 use mathlib.Core.Bool.{not}
-use borrow.Author.Rules.{rules}
 use Rattle.resolve.proofs.strings.is_free_name.Goals as goal
 
 pub returns-then-is_full_name : goal.returns-then-is_full_name

@@ -3,7 +3,6 @@
 use borrow.Author.Tests.{lt-leb, le-leb}
 use Rattle.name.specs.Full.{is_short}
 use Rattle.resolve.specs.Rules.{is_own_name}
-use borrow.Author.Rules.{rules}
 use Rattle.resolve.proofs.strings.is_own_name.Goals as goal
 
 pub returns-then-s-gt-LONGEST : goal.returns-then-s-gt-LONGEST

@@ -1,13 +1,7 @@
 -- `resolve::tree::good_parts` meets its contract: the answer for the rows that are left, behind n parts, is the answer.
 -- Assumes nothing.
-use mathlib.Core.Path.{◌≡◌, refl, sym, ◌∙◌}
-use Prim.Native.Nat.{◌+◌, ◌-◌, ◌≤◌}
-use borrow.Author.Tests.{not-true, not-false}
-use Rattle.row.specs.Sets.{rows_from}
-use Rattle.row.specs.Memory.{entry_at, row_at}
-use Rattle.resolve.specs.Rules.{kinds_at, good_parts}
-use Rattle.resolve.specs.Steps.{left_fit}
-use Rattle.resolve.proofs.TreeLaws.{below, parts_end, parts_stop, parts_deeper, parts_alias, parts_wrong, parts_part, parts_start}
+use mathlib.Core.Path.{refl, sym, ◌∙◌}
+use Rattle.resolve.proofs.TreeLaws.{parts_end, parts_stop, parts_deeper, parts_alias, parts_wrong, parts_part, parts_start}
 use borrow.Author.Rules.{rules}
 use Rattle.resolve.proofs.tree.good_parts.Goals as goal
 
@@ -24,10 +18,10 @@ pub loop-j-preserved-then-is_leading : goal.loop-j-preserved-then-is_leading
 loop-j-preserved-then-is_leading c = (search rules, search rules, search rules, parts_alias _ _ _ _ _ _ _ c.loop-j.invariant.3 c.loop-j-test.true _ c.depth_at-d.ensures.0 c.if-d-depth.false c.if-d-depth-2.false _ refl (sym (c.is_leading.ensures _ _ c.kind_number-kind.ensures c.kind_number-k.ensures) ∙ c.if-is_leading.true) _ refl)
 
 pub returns-then-not-is_part_of : goal.returns-then-not-is_part_of
-returns-then-not-is_part_of c = parts_wrong _ _ _ _ _ _ _ c.loop-j.invariant.3 c.loop-j-test.true _ c.depth_at-d.ensures.0 c.if-d-depth.false c.if-d-depth-2.false _ refl (sym (c.is_leading.ensures _ _ c.kind_number-kind.ensures c.kind_number-k.ensures) ∙ c.if-is_leading.false) (sym (c.is_part_of.ensures _ _ c.kind_number-kind.ensures c.kind_number-k.ensures) ∙ not-true _ c.if-not-is_part_of.true-raw)
+returns-then-not-is_part_of c = parts_wrong _ _ _ _ _ _ _ c.loop-j.invariant.3 c.loop-j-test.true _ c.depth_at-d.ensures.0 c.if-d-depth.false c.if-d-depth-2.false _ refl (sym (c.is_leading.ensures _ _ c.kind_number-kind.ensures c.kind_number-k.ensures) ∙ c.if-is_leading.false) (sym (c.is_part_of.ensures _ _ c.kind_number-kind.ensures c.kind_number-k.ensures) ∙ c.if-not-is_part_of.true)
 
 pub loop-j-preserved : goal.loop-j-preserved
-loop-j-preserved c = (search rules, search rules, search rules, parts_part _ _ _ _ _ _ _ c.loop-j.invariant.3 c.loop-j-test.true _ c.depth_at-d.ensures.0 c.if-d-depth.false c.if-d-depth-2.false _ refl (sym (c.is_leading.ensures _ _ c.kind_number-kind.ensures c.kind_number-k.ensures) ∙ c.if-is_leading.false) (sym (c.is_part_of.ensures _ _ c.kind_number-kind.ensures c.kind_number-k.ensures) ∙ not-false _ c.if-not-is_part_of.false-raw) _ refl)
+loop-j-preserved c = (search rules, search rules, search rules, parts_part _ _ _ _ _ _ _ c.loop-j.invariant.3 c.loop-j-test.true _ c.depth_at-d.ensures.0 c.if-d-depth.false c.if-d-depth-2.false _ refl (sym (c.is_leading.ensures _ _ c.kind_number-kind.ensures c.kind_number-k.ensures) ∙ c.if-is_leading.false) (sym (c.is_part_of.ensures _ _ c.kind_number-kind.ensures c.kind_number-k.ensures) ∙ c.if-not-is_part_of.false) _ refl)
 
 pub returns : goal.returns
 returns c = c.may_end-2.ensures _ c.kind_number-kind.ensures ∙ parts_end _ _ _ _ _ _ _ c.loop-j.invariant.3 c.loop-j-test.false

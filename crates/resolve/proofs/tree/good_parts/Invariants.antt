@@ -1,14 +1,12 @@
 -- `resolve::tree::good_parts` meets its contract: the answer for the rows that are left, behind n parts, is the answer.
 -- Assumes nothing.
-use mathlib.Core.Path.{◌≡◌, refl, sym, ◌∙◌}
+use mathlib.Core.Path.{◌≡◌}
 use Prim.Native.Nat.{◌+◌, ◌-◌, ◌≤◌}
-use borrow.Author.Tests.{not-true, not-false}
 use Rattle.row.specs.Sets.{rows_from}
 use Rattle.row.specs.Memory.{entry_at, row_at}
 use Rattle.resolve.specs.Rules.{kinds_at, good_parts}
 use Rattle.resolve.specs.Steps.{left_fit}
-use Rattle.resolve.proofs.TreeLaws.{below, parts_end, parts_stop, parts_deeper, parts_alias, parts_wrong, parts_part, parts_start}
-use borrow.Author.Rules.{rules}
+use Rattle.resolve.proofs.TreeLaws.{below}
 use Rattle.resolve.proofs.tree.good_parts.Given as goal
 
 abbrev pub invariant-loop-j : goal.invariant-loop-j

@@ -2,7 +2,6 @@
 -- Assumes nothing.
 use mathlib.Core.Path.{refl}
 use Rattle.ground.specs.Numbers.{low_first}
-use borrow.Author.Rules.{rules}
 use Rattle.row.proofs.number.two.Goals as goal
 
 pub returns : goal.returns

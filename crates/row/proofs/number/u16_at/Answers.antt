@@ -2,7 +2,6 @@
 -- Assumes nothing.
 use native.Mathlib.Omega.{arith}
 use Rattle.row.proofs.NumberLaws.{number_two}
-use borrow.Author.Rules.{rules}
 use Rattle.row.proofs.number.u16_at.Goals as goal
 
 pub returns : goal.returns

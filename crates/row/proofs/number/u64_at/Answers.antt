@@ -2,7 +2,6 @@
 -- Assumes nothing.
 use native.Mathlib.Omega.{arith}
 use Rattle.row.proofs.NumberLaws.{number_eight}
-use borrow.Author.Rules.{rules}
 use Rattle.row.proofs.number.u64_at.Goals as goal
 
 pub returns : goal.returns

@@ -1,7 +1,6 @@
 -- `row::read::declarations` meets its contract: the first two bytes.
 -- Assumes nothing.
 use Rattle.row.specs.Sets.{count_in}
-use borrow.Author.Rules.{rules}
 use Rattle.row.proofs.read.declarations.Goals as goal
 
 pub returns : goal.returns

@@ -1,7 +1,6 @@
 -- `row::read::default_of` meets its contract: the part of the string area behind the row's own string.
 -- Assumes nothing.
 use Rattle.row.proofs.ReadLaws.{read_default, default_lies}
-use borrow.Author.Rules.{rules}
 use Rattle.row.proofs.read.default_of.Goals as goal
 
 pub returns : goal.returns

@@ -1,7 +1,6 @@
 -- `row::read::kind_at` meets its contract: the first byte of the row says the kind.
 -- Assumes nothing.
 use Rattle.row.proofs.ReadLaws.{read_kind}
-use borrow.Author.Rules.{rules}
 use Rattle.row.proofs.read.kind_at.Goals as goal
 
 pub returns : goal.returns

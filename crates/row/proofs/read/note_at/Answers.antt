@@ -1,7 +1,6 @@
 -- `row::read::note_at` meets its contract: one byte of the row.
 -- Assumes nothing.
 use Rattle.row.proofs.ReadLaws.{read_note}
-use borrow.Author.Rules.{rules}
 use Rattle.row.proofs.read.note_at.Goals as goal
 
 pub returns : goal.returns

@@ -1,7 +1,6 @@
 -- `row::read::position_at` meets its contract: two bytes of the row.
 -- Assumes nothing.
 use Rattle.row.proofs.ReadLaws.{read_position}
-use borrow.Author.Rules.{rules}
 use Rattle.row.proofs.read.position_at.Goals as goal
 
 pub returns : goal.returns

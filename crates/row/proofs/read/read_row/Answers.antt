@@ -1,7 +1,6 @@
 -- `row::read::read_row` meets its contract: each number is read from its own bytes.
 -- Assumes nothing.
 use Rattle.row.proofs.ReadLaws.{read_entry}
-use borrow.Author.Rules.{rules}
 use Rattle.row.proofs.read.read_row.Goals as goal
 
 pub returns : goal.returns

@@ -1,12 +1,7 @@
 -- `row::read::rows_before` meets its contract. The invariant: the rows counted and those of the places left are all rows before the place.
 -- Assumes nothing.
 use borrow.Author.Rules.{rules}
-use mathlib.Core.Path.{◌≡◌}
-use Prim.Native.Nat.{◌+◌, ◌*◌, ◌-◌, ◌≤◌}
 use native.Mathlib.Omega.{arith}
-use lib.ListN.{drop}
-use Rattle.row.specs.Sets.{sum, words_of}
-use Rattle.row.specs.Memory.{rows_before}
 use Rattle.row.proofs.ReadLaws.{before_start, before_turn, before_end}
 use Rattle.row.proofs.read.rows_before.Goals as goal
 

@@ -1,7 +1,6 @@
 -- `row::read::scale_at` meets its contract: eight bytes of the row.
 -- Assumes nothing.
 use Rattle.row.proofs.ReadLaws.{read_scale}
-use borrow.Author.Rules.{rules}
 use Rattle.row.proofs.read.scale_at.Goals as goal
 
 pub returns : goal.returns

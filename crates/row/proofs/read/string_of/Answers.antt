@@ -1,7 +1,6 @@
 -- `row::read::string_of` meets its contract: the part of the string area that the row names.
 -- Assumes nothing.
 use Rattle.row.proofs.ReadLaws.{read_text, text_lies}
-use borrow.Author.Rules.{rules}
 use Rattle.row.proofs.read.string_of.Goals as goal
 
 pub returns : goal.returns

@@ -1,7 +1,6 @@
 -- `row::read::strings_before` meets its contract: no rows have no bytes, and others end where the last one's strings end.
 -- Assumes nothing.
 use Rattle.row.proofs.ReadLaws.{no_rows, some_rows}
-use borrow.Author.Rules.{rules}
 use Rattle.row.proofs.read.strings_before.Goals as goal
 
 pub returns-then-n-eq0 : goal.returns-then-n-eq0

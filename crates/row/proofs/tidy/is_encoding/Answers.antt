@@ -3,7 +3,6 @@
 use native.Mathlib.Omega.{arith}
 use Rattle.row.proofs.TestLaws.{wrong_length, many_declarations, many_rows, not_tidy, spare_decides}
 use Rattle.row.proofs.TidyLaws.{all_bytes}
-use borrow.Author.Rules.{rules}
 use Rattle.row.proofs.tidy.is_encoding.Goals as goal
 
 pub returns-then-mem-ne-LENGTH : goal.returns-then-mem-ne-LENGTH

@@ -1,14 +1,10 @@
 -- `row::tidy::rows_end` meets its contract. The invariant: the rows left end where all end.
 -- Assumes nothing.
-use borrow.Author.Rules.{rules}
-use borrow.Author.Tests.{not-true, not-false}
-use mathlib.Core.Path.{◌≡◌, sym, ◌∙◌}
+use mathlib.Core.Path.{◌≡◌}
 use Prim.Native.Nat.{◌+◌, ◌*◌, ◌-◌, ◌≤◌}
-use native.Mathlib.Omega.{arith}
 use lib.ListN.{drop}
 use Rattle.row.specs.Layout.{string_limit, rows_start, row_size}
 use Rattle.row.specs.Tidy.{tidy_end, rows_end}
-use Rattle.row.proofs.TestLaws.{end_start, end_fits, end_turn, end_stop, end_end}
 use Rattle.row.proofs.tidy.rows_end.Given as goal
 
 abbrev pub invariant-loop-i : goal.invariant-loop-i

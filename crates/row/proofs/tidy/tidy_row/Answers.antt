@@ -1,7 +1,6 @@
 -- `row::tidy::tidy_row` meets its contract: the kind, where the strings lie, where they end.
 -- Assumes nothing.
 use Rattle.row.proofs.TestLaws.{no_such_kind, other_start, start_there}
-use borrow.Author.Rules.{rules}
 use Rattle.row.proofs.tidy.tidy_row.Goals as goal
 
 pub returns-then-known-number : goal.returns-then-known-number

@@ -1,7 +1,6 @@
 -- `row::write::bytes_of` meets its contract: the four parts are those of the definition.
 -- Assumes nothing.
 use Rattle.row.proofs.WriteLaws.{row_joined}
-use borrow.Author.Rules.{rules}
 use Rattle.row.proofs.write.bytes_of.Goals as goal
 
 pub returns : goal.returns

@@ -1,11 +1,8 @@
 -- `row::write::clear` meets its contract. The invariant: the bytes passed are zero.
 -- Assumes nothing.
-use borrow.Author.Rules.{rules}
-use mathlib.Core.Path.{◌≡◌, refl}
-use Prim.Native.Nat.{◌-◌, ◌≤◌}
+use mathlib.Core.Path.{refl}
 use native.Mathlib.Omega.{arith}
-use lib.ListN.{length, take, length-set}
-use Rattle.row.specs.Sets.{zeros}
+use lib.ListN.{length-set}
 use Rattle.row.proofs.WriteLaws.{clear_turn, clear_end}
 use Rattle.row.proofs.write.clear.Goals as goal
 

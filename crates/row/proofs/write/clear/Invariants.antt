@@ -1,12 +1,9 @@
 -- `row::write::clear` meets its contract. The invariant: the bytes passed are zero.
 -- Assumes nothing.
-use borrow.Author.Rules.{rules}
-use mathlib.Core.Path.{◌≡◌, refl}
+use mathlib.Core.Path.{◌≡◌}
 use Prim.Native.Nat.{◌-◌, ◌≤◌}
-use native.Mathlib.Omega.{arith}
-use lib.ListN.{length, take, length-set}
+use lib.ListN.{length, take}
 use Rattle.row.specs.Sets.{zeros}
-use Rattle.row.proofs.WriteLaws.{clear_turn, clear_end}
 use Rattle.row.proofs.write.clear.Given as goal
 
 abbrev pub invariant-loop-at : goal.invariant-loop-at

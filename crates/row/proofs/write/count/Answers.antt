@@ -1,7 +1,6 @@
 -- `row::write::count` meets its contract: two sums, neither past the largest number.
 -- Assumes nothing.
 use Rattle.row.proofs.WriteLaws.{count_is}
-use borrow.Author.Rules.{rules}
 use Rattle.row.proofs.write.count.Goals as goal
 
 pub returns : goal.returns

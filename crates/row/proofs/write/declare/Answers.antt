@@ -1,7 +1,6 @@
 -- `row::write::declare` meets its contract: the place's two bytes, then the number of declarations.
 -- Assumes nothing.
 use Rattle.row.proofs.WriteLaws.{two_words}
-use borrow.Author.Rules.{rules}
 use Rattle.row.proofs.write.declare.Goals as goal
 
 pub returns : goal.returns

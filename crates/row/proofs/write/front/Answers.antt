@@ -2,7 +2,6 @@
 -- Assumes nothing.
 use Rattle.ground.specs.Numbers.{low_first}
 use Rattle.row.specs.Rows.{encode_front}
-use borrow.Author.Rules.{rules}
 use Rattle.row.proofs.write.front.Goals as goal
 
 pub returns : goal.returns

@@ -6,4 +6,4 @@ use Rattle.row.proofs.write.joined.Goals as goal
 
 pub returns : goal.returns
 unfolding listed
-returns c = four_parts c.args.t1 c.args.t2 c.args.t3 c.args.t4 (search rules) (search rules) (search rules) (search rules)
+returns c = four_parts c.args.front c.args.size c.args.precision c.args.scale (search rules) (search rules) (search rules) (search rules)

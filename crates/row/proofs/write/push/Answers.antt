@@ -1,7 +1,6 @@
 -- `row::write::push` meets its contract: a row whose default has no bytes.
 -- Assumes nothing.
 use Rattle.row.proofs.WriteLaws.{one_counted}
-use borrow.Author.Rules.{rules}
 use Rattle.row.proofs.write.push.Goals as goal
 
 pub returns : goal.returns

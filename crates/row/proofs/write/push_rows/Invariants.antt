@@ -1,13 +1,10 @@
 -- `row::write::push_rows` meets its contract. The invariant: the rows left, pushed, give what all of them give.
 -- Assumes nothing.
-use borrow.Author.Rules.{rules}
-use mathlib.Core.Path.{◌≡◌, refl, ◌∙◌, ap}
+use mathlib.Core.Path.{◌≡◌}
 use Prim.Native.Nat.{◌+◌, ◌-◌, ◌≤◌}
-use native.Mathlib.Omega.{arith}
 use lib.ListN.{length}
 use Rattle.row.specs.Sets.{rows_from}
 use Rattle.row.specs.Memory.{counted_all, pushed_all}
-use Rattle.row.proofs.WriteLaws.{push_start, push_turn, push_end}
 use Rattle.row.proofs.write.push_rows.Given as goal
 
 abbrev pub invariant-loop-i : goal.invariant-loop-i

@@ -1,7 +1,6 @@
 -- `row::write::write` meets its contract: the row, then its strings.
 -- Assumes nothing.
 use Rattle.row.proofs.WriteLaws.{all_written}
-use borrow.Author.Rules.{rules}
 use Rattle.row.proofs.write.write.Goals as goal
 
 pub returns : goal.returns

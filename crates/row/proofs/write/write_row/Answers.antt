@@ -2,7 +2,6 @@
 -- Assumes nothing.
 use mathlib.Core.Path.{ap, ◌∙◌}
 use Rattle.ground.specs.Bytes.{store}
-use borrow.Author.Rules.{rules}
 use Rattle.row.proofs.write.write_row.Goals as goal
 
 pub returns : goal.returns

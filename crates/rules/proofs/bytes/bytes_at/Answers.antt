@@ -1,7 +1,6 @@
 -- `rules::bytes::bytes_at` meets its contract: a value ends behind its first byte.
 -- Assumes nothing.
 use Rattle.view.proofs.Laws.{end_ahead}
-use borrow.Author.Rules.{rules}
 use native.Mathlib.Omega.{arith}
 use Rattle.rules.proofs.bytes.bytes_at.Goals as goal
 

@@ -1,15 +1,13 @@
 -- `rules::fields::all_names` meets its contract: what is left of the check, given what was passed, is the whole one.
 -- Assumes nothing.
-use mathlib.Core.Path.{◌≡◌, refl, ap, ◌∙◌}
+use mathlib.Core.Path.{◌≡◌}
 use mathlib.Core.List.{[]}
 use lib.ListN.{length}
 use Rattle.rules.proofs.Listed.{fields_left}
-use Rattle.rules.proofs.Entering.{Marked, length_all, fields_bad, fields_done, fields_held, fields_on, fields_start}
-use Rattle.form.proofs.Laws.{visit_less}
+use Rattle.rules.proofs.Entering.{Marked}
 use Rattle.rules.specs.Fields.{field_names_check, taken_among}
 use Rattle.form.specs.Spots.{fields_in}
 use Rattle.view.specs.Elements.{elements_at}
-use borrow.Author.Rules.{rules}
 use Rattle.rules.proofs.fields.all_names.Given as goal
 
 abbrev pub invariant-loop-spot : goal.invariant-loop-spot

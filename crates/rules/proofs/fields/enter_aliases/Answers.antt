@@ -1,6 +1,6 @@
 -- `rules::fields::enter_aliases` meets its contract: what is left, entered, gives the whole.
 -- Assumes nothing.
-use mathlib.Core.Path.{◌∙◌, ◌≡◌, ap, refl}
+use mathlib.Core.Path.{◌∙◌, ap, refl}
 use mathlib.Core.List.{List, map}
 use Prim.Native.Nat.{ℕ}
 use lib.ListN.{length}
@@ -9,8 +9,6 @@ use Rattle.form.proofs.Laws.{visit_less}
 use Rattle.seen.proofs.Laws.{length_entered, sized_as}
 use Rattle.rules.specs.Fields.{entered_all}
 use Rattle.view.specs.Strings.{string_at}
-use Rattle.view.specs.Elements.{elements_at}
-use borrow.Author.Rules.{rules}
 use Rattle.rules.proofs.fields.enter_aliases.Goals as goal
 
 pub loop-spot-init : goal.loop-spot-init

@@ -1,16 +1,11 @@
 -- `rules::fields::enter_aliases` meets its contract: what is left, entered, gives the whole.
 -- Assumes nothing.
-use mathlib.Core.Path.{◌∙◌, ◌≡◌, ap, refl}
-use mathlib.Core.List.{List, map}
-use Prim.Native.Nat.{ℕ}
+use mathlib.Core.Path.{◌≡◌}
+use mathlib.Core.List.{map}
 use lib.ListN.{length}
-use Rattle.rules.proofs.Entering.{entered_done, entered_turn}
-use Rattle.form.proofs.Laws.{visit_less}
-use Rattle.seen.proofs.Laws.{length_entered, sized_as}
 use Rattle.rules.specs.Fields.{entered_all}
 use Rattle.view.specs.Strings.{string_at}
 use Rattle.view.specs.Elements.{elements_at}
-use borrow.Author.Rules.{rules}
 use Rattle.rules.proofs.fields.enter_aliases.Given as goal
 
 abbrev pub invariant-loop-spot : goal.invariant-loop-spot

@@ -5,7 +5,6 @@ use Rattle.seen.specs.Seen.{is_marked}
 use Rattle.seen.proofs.Laws.{length_entered, sized_as}
 use lib.ListN.{length}
 use Rattle.rules.proofs.Entering.{entered_first}
-use borrow.Author.Rules.{rules}
 use Rattle.rules.proofs.fields.enter_names.Goals as goal
 
 pub enter_aliases-requires : goal.enter_aliases-requires

@@ -1,12 +1,9 @@
 -- `rules::fields::is_alias` meets its contract: the answer for what is left is the whole answer.
 -- Assumes nothing.
-use mathlib.Core.Path.{◌∙◌, ◌≡◌, ap, refl}
-use borrow.Author.Rules.{rules}
-use lib.ListN.{length}
+use mathlib.Core.Path.{◌∙◌, ap, refl}
 use Rattle.rules.proofs.Earlier.{all_done, all_on, all_yes, some}
 use Rattle.rules.proofs.Listed.{Alike, among_some}
 use Rattle.form.proofs.Laws.{visit_less}
-use Rattle.view.specs.Elements.{elements_at}
 use Rattle.rules.proofs.fields.is_alias.Goals as goal
 
 pub loop-spot-init : goal.loop-spot-init

@@ -1,7 +1,6 @@
 -- `rules::fields::is_taker` meets its contract.
 -- Assumes nothing.
 use mathlib.Core.Path.{◌∙◌, sym}
-use borrow.Author.Rules.{rules}
 use Rattle.rules.proofs.fields.is_taker.Goals as goal
 
 pub returns-then-is_object : goal.returns-then-is_object

@@ -1,6 +1,5 @@
 -- `rules::fields::name_at` meets its contract.
 -- Assumes nothing.
-use borrow.Author.Rules.{rules}
 use Rattle.rules.proofs.Listed.{name_here, name_missing}
 use Rattle.rules.proofs.fields.name_at.Goals as goal
 

@@ -1,6 +1,5 @@
 -- `rules::fields::takes` meets its contract.
 -- Assumes nothing.
-use borrow.Author.Rules.{rules}
 use Rattle.rules.proofs.Listed.{takes_alias, takes_name_lem}
 use Rattle.rules.proofs.fields.takes.Goals as goal
 

@@ -3,7 +3,6 @@
 use mathlib.Core.Path.{◌∙◌, ap}
 use Rattle.seen.specs.Seen.{is_marked, entered}
 use Rattle.rules.proofs.Surely.{kind_union, kind_other}
-use borrow.Author.Rules.{rules}
 use Rattle.rules.proofs.members.enter_kind.Goals as goal
 
 pub returns-then-kind-number : goal.returns-then-kind-number

@@ -2,7 +2,6 @@
 -- Assumes nothing.
 use Rattle.rules.proofs.Heads.{apart_name, apart_short}
 use Rattle.rules.proofs.Surely.{enters_not, enters_kind, enters_name}
-use borrow.Author.Rules.{rules}
 use native.Mathlib.Omega.{arith}
 use Rattle.rules.proofs.members.enter_member.Goals as goal
 

@@ -1,7 +1,6 @@
 -- `rules::members::is_small` meets its contract: it looks at eight elements at most.
 -- Assumes nothing.
 use Prim.Native.Nat.{◌-◌, ◌≤◌}
-use borrow.Author.Rules.{rules}
 use Rattle.rules.proofs.members.is_small.Given as goal
 
 abbrev pub invariant-loop-n : goal.invariant-loop-n

@@ -1,11 +1,8 @@
 -- `rules::members::new_until` meets its contract: the members that were passed are new.
 -- Assumes nothing.
-use mathlib.Core.Path.{◌≡◌, refl}
-use lib.ListN.{length}
-use borrow.Author.Tests.{not-false}
+use mathlib.Core.Path.{refl}
 use Rattle.form.proofs.Laws.{visit_less}
-use Rattle.view.specs.Elements.{elements_at}
-use Rattle.rules.proofs.Surely.{Going, going_done, going_held, going_on, going_start, going_stop}
+use Rattle.rules.proofs.Surely.{going_done, going_held, going_on, going_start, going_stop}
 use borrow.Author.Rules.{rules}
 use Rattle.rules.proofs.members.new_until.Goals as goal
 
@@ -25,4 +22,4 @@ pub loop-spot-smaller : goal.loop-spot-smaller
 loop-spot-smaller c = visit_less _ c.in-At.is c.next_element-spot.ensures
 
 pub loop-spot-preserved : goal.loop-spot-preserved
-loop-spot-preserved c = (search rules, going_on _ _ _ c.loop-spot.invariant.1 c.in-At.is c.enter_member.ensures (not-false _ c.if-not-enter_member.false-raw) c.next_element-spot.ensures)
+loop-spot-preserved c = (search rules, going_on _ _ _ c.loop-spot.invariant.1 c.in-At.is c.enter_member.ensures c.if-not-enter_member.false c.next_element-spot.ensures)

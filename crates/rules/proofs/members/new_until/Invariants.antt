@@ -1,12 +1,9 @@
 -- `rules::members::new_until` meets its contract: the members that were passed are new.
 -- Assumes nothing.
-use mathlib.Core.Path.{◌≡◌, refl}
+use mathlib.Core.Path.{◌≡◌}
 use lib.ListN.{length}
-use borrow.Author.Tests.{not-false}
-use Rattle.form.proofs.Laws.{visit_less}
 use Rattle.view.specs.Elements.{elements_at}
-use Rattle.rules.proofs.Surely.{Going, going_done, going_held, going_on, going_start, going_stop}
-use borrow.Author.Rules.{rules}
+use Rattle.rules.proofs.Surely.{Going}
 use Rattle.rules.proofs.members.new_until.Given as goal
 
 abbrev pub invariant-loop-spot : goal.invariant-loop-spot

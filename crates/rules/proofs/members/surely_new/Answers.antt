@@ -1,7 +1,6 @@
 -- `rules::members::surely_new` meets its contract: of a small union nothing is said.
 -- Assumes nothing.
 use Rattle.rules.proofs.Surely.{sure_none}
-use borrow.Author.Rules.{rules}
 use Rattle.rules.proofs.members.surely_new.Goals as goal
 
 pub returns-then-long-lt-FEW_BYTES : goal.returns-then-long-lt-FEW_BYTES

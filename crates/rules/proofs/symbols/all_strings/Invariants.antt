@@ -1,12 +1,8 @@
 -- `rules::symbols::all_strings` meets its contract: the check of what is left is the whole one.
 -- Assumes nothing.
-use mathlib.Core.Path.{◌≡◌, ap}
-use borrow.Author.Rules.{rules}
-use borrow.Author.Tests.{not-false, not-true}
+use mathlib.Core.Path.{◌≡◌}
 use lib.ListN.{length}
-use Rattle.rules.proofs.Listed.{strings_done, strings_not, strings_turn, strings_of}
-use Rattle.form.proofs.Laws.{visit_less}
-use Rattle.view.proofs.Laws.{left_start}
+use Rattle.rules.proofs.Listed.{strings_of}
 use Rattle.view.specs.Elements.{elements, elements_at}
 use Rattle.rules.proofs.symbols.all_strings.Given as goal
 

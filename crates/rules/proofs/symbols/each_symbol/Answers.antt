@@ -1,16 +1,10 @@
 -- `rules::symbols::each_symbol` meets its contract: what is left of the check, given what was passed, is the whole one.
 -- Assumes nothing.
-use mathlib.Core.Path.{◌≡◌, refl, ap, ◌∙◌}
-use mathlib.Core.List.{[], map}
+use mathlib.Core.Path.{refl, ap, ◌∙◌}
 use lib.ListN.{length}
-use Rattle.rules.proofs.Listed.{symbols_left}
-use Rattle.rules.proofs.Entering.{Marked, symbols_bad, symbols_done, symbols_held, symbols_on, symbols_start}
+use Rattle.rules.proofs.Entering.{symbols_bad, symbols_done, symbols_held, symbols_on, symbols_start}
 use Rattle.form.proofs.Laws.{visit_less}
 use Rattle.seen.proofs.Laws.{length_entered}
-use Rattle.rules.specs.Symbols.{symbols_new}
-use Rattle.view.specs.Strings.{string_at}
-use Rattle.view.specs.Elements.{elements, elements_at}
-use borrow.Author.Rules.{rules}
 use Rattle.rules.proofs.symbols.each_symbol.Goals as goal
 
 pub loop-spot-init : goal.loop-spot-init

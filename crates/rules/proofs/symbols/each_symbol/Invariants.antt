@@ -1,16 +1,13 @@
 -- `rules::symbols::each_symbol` meets its contract: what is left of the check, given what was passed, is the whole one.
 -- Assumes nothing.
-use mathlib.Core.Path.{◌≡◌, refl, ap, ◌∙◌}
+use mathlib.Core.Path.{◌≡◌}
 use mathlib.Core.List.{[], map}
 use lib.ListN.{length}
 use Rattle.rules.proofs.Listed.{symbols_left}
-use Rattle.rules.proofs.Entering.{Marked, symbols_bad, symbols_done, symbols_held, symbols_on, symbols_start}
-use Rattle.form.proofs.Laws.{visit_less}
-use Rattle.seen.proofs.Laws.{length_entered}
+use Rattle.rules.proofs.Entering.{Marked}
 use Rattle.rules.specs.Symbols.{symbols_new}
 use Rattle.view.specs.Strings.{string_at}
 use Rattle.view.specs.Elements.{elements, elements_at}
-use borrow.Author.Rules.{rules}
 use Rattle.rules.proofs.symbols.each_symbol.Given as goal
 
 abbrev pub invariant-loop-spot : goal.invariant-loop-spot

@@ -3,7 +3,6 @@
 use mathlib.Core.Path.{◌∙◌, ap}
 use Rattle.seen.specs.Seen.{entered}
 use Rattle.rules.proofs.Entering.{unmarked}
-use borrow.Author.Rules.{rules}
 use Rattle.rules.proofs.symbols.enter_symbol.Goals as goal
 
 pub enter-requires : goal.enter-requires

@@ -1,15 +1,10 @@
 -- `rules::symbols::is_among` meets its contract: the answer for what is left is the whole answer.
 -- Assumes nothing.
-use mathlib.Core.Path.{◌∙◌, ◌≡◌, ap}
-use mathlib.Core.List.{List}
-use Prim.Native.Nat.{ℕ}
-use borrow.Author.Rules.{rules}
+use mathlib.Core.Path.{◌≡◌}
 use lib.ListN.{length}
-use Rattle.rules.proofs.Earlier.{some, some_done, some_found, some_here, some_turn}
-use Rattle.rules.proofs.Listed.{Alike, among_some}
-use Rattle.form.proofs.Laws.{visit_less}
+use Rattle.rules.proofs.Earlier.{some}
+use Rattle.rules.proofs.Listed.{Alike}
 use Rattle.rules.specs.Unions.{before}
-use Rattle.view.proofs.Laws.{left_start}
 use Rattle.view.specs.Elements.{elements, elements_at}
 use Rattle.rules.proofs.symbols.is_among.Given as goal
 

@@ -3,7 +3,6 @@
 use Rattle.rules.proofs.Listed.{symbol_bad, symbol_next}
 use Rattle.rules.specs.Unions.{before}
 use Rattle.view.specs.Elements.{elements}
-use borrow.Author.Rules.{rules}
 use Rattle.rules.proofs.symbols.symbol.Goals as goal
 
 pub enter_symbol-twice-requires : goal.enter_symbol-twice-requires

@@ -1,7 +1,6 @@
 -- `rules::symbols::symbols_check` meets its contract.
 -- Assumes nothing.
 use Rattle.rules.proofs.Listed.{symbols_each, symbols_not}
-use borrow.Author.Rules.{rules}
 use Rattle.rules.proofs.symbols.symbols_check.Goals as goal
 
 pub returns-in-Bad : goal.returns-in-Bad

@@ -2,7 +2,6 @@
 -- Assumes nothing.
 use mathlib.Core.Path.{sym, ap}
 use Rattle.rules.specs.Unions.{by_name}
-use borrow.Author.Rules.{rules}
 use Rattle.rules.proofs.unions.by_name.Goals as goal
 
 pub returns-in-Fits : goal.returns-in-Fits

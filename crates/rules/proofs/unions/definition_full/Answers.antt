@@ -1,7 +1,6 @@
 -- `rules::unions::definition_full` meets its contract.
 -- Assumes nothing.
 use Rattle.rules.proofs.Heads.{named_in, named_none, named_within}
-use borrow.Author.Rules.{rules}
 use Rattle.rules.proofs.unions.definition_full.Goals as goal
 
 pub returns-in_default : goal.returns-in_default

@@ -3,7 +3,6 @@
 use mathlib.Core.Path.{refl}
 use Rattle.form.proofs.Laws.{copied}
 use Rattle.rules.proofs.Heads.{full_is}
-use borrow.Author.Rules.{rules}
 use native.Mathlib.Omega.{arith}
 use Rattle.rules.proofs.unions.full_at.Goals as goal
 

@@ -2,7 +2,6 @@
 -- Assumes nothing.
 use Rattle.form.proofs.Laws.{copied}
 use Rattle.rules.proofs.Heads.{full_is, full_long, stored}
-use borrow.Author.Rules.{rules}
 use native.Mathlib.Omega.{arith}
 use Rattle.rules.proofs.unions.full_in.Goals as goal
 

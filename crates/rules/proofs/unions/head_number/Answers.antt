@@ -1,7 +1,6 @@
 -- `rules::unions::head_number` meets its contract: the number of each form's head.
 -- Assumes nothing.
 use mathlib.Core.Path.{◌∙◌, ap, sym}
-use borrow.Author.Rules.{rules}
 use Rattle.rules.proofs.Heads.{definition_number, head_array, head_enum, head_fixed, head_is, head_map, head_record, head_union, head_word, head_wrong}
 use Rattle.rules.specs.Unions.{head_number}
 use Rattle.rules.proofs.unions.head_number.Goals as goal

@@ -1,7 +1,6 @@
 -- `rules::unions::is_head` meets its contract: a full name that is too long is no other's.
 -- Assumes nothing.
 use Rattle.rules.proofs.Heads.{apart_name, clash_called, clash_kinded, clash_long}
-use borrow.Author.Rules.{rules}
 use native.Mathlib.Omega.{arith}
 use Rattle.rules.proofs.unions.is_head.Goals as goal
 

@@ -1,18 +1,14 @@
 -- `rules::unions::is_new_name` meets its contract: the answer for what is left is the whole answer.
 -- Assumes nothing.
-use mathlib.Core.Path.{◌∙◌, ◌≡◌, ap}
+use mathlib.Core.Path.{◌∙◌, ap}
 use mathlib.Core.Bool.{not}
 use mathlib.Core.List.{List}
 use Prim.Native.Nat.{ℕ}
-use borrow.Author.Rules.{rules}
-use lib.ListN.{length}
 use Rattle.rules.proofs.Earlier.{some, some_done, some_found, some_here, some_turn}
 use Rattle.rules.proofs.Heads.{Clashes, new_some}
 use Rattle.form.proofs.Laws.{visit_less}
 use Rattle.rules.specs.Unions.{before, called}
 use Rattle.view.proofs.Laws.{left_start}
-use Rattle.view.specs.Elements.{elements, elements_at}
-use Rattle.view.specs.Members.{member}
 use Rattle.rules.proofs.unions.is_new_name.Goals as goal
 
 pub loop-spot-init : goal.loop-spot-init

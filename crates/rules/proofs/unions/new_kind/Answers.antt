@@ -1,6 +1,5 @@
 -- `rules::unions::new_kind` meets its contract.
 -- Assumes nothing.
-use borrow.Author.Rules.{rules}
 use Rattle.rules.proofs.Heads.{alone_fine, kind_new, union_in_union}
 use Rattle.rules.proofs.unions.new_kind.Goals as goal
 

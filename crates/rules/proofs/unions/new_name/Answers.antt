@@ -1,6 +1,5 @@
 -- `rules::unions::new_name` meets its contract.
 -- Assumes nothing.
-use borrow.Author.Rules.{rules}
 use Rattle.rules.proofs.Heads.{alone_fine, name_new}
 use Rattle.rules.proofs.unions.new_name.Goals as goal
 

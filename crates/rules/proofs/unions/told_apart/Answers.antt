@@ -2,7 +2,6 @@
 -- Assumes nothing.
 use mathlib.Core.Path.{◌∙◌}
 use Rattle.rules.proofs.Heads.{apart_is, apart_called, apart_kind, apart_none, definition_called, definition_is, head_array, head_enum, head_fixed, head_is, head_map, head_record, head_union, head_word, head_wrong}
-use borrow.Author.Rules.{rules}
 use Rattle.rules.proofs.unions.told_apart.Goals as goal
 
 pub returns-in-Word : goal.returns-in-Word

@@ -1,7 +1,6 @@
 -- `rules::unions::word_apart` meets its contract.
 -- Assumes nothing.
 use Rattle.rules.proofs.Heads.{apart_reference, apart_primitive}
-use borrow.Author.Rules.{rules}
 use Rattle.rules.proofs.unions.word_apart.Goals as goal
 
 pub returns-then-kind-number : goal.returns-then-kind-number

@@ -1,6 +1,5 @@
 -- `rules::unions::word_number` meets its contract.
 -- Assumes nothing.
-use borrow.Author.Rules.{rules}
 use Rattle.rules.proofs.Heads.{number_primitive, number_reference}
 use Rattle.rules.proofs.unions.word_number.Goals as goal
 

@@ -7,7 +7,6 @@ use Rattle.schema.proofs.Within.{definition_passed, definition_held}
 use Rattle.form.proofs.Laws.{named_kept, named_wrong}
 use Rattle.row.specs.declared.Entry.{Entry}
 use native.Mathlib.Omega.{arith}
-use borrow.Author.Rules.{rules}
 use Rattle.schema.proofs.definitions.define.Goals as goal
 
 pub returns-in_default : goal.returns-in_default

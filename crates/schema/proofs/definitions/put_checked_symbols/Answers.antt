@@ -1,7 +1,6 @@
 -- `schema::definitions::put_checked_symbols` meets its contract.
 -- Assumes nothing.
 use Rattle.schema.proofs.Headed.{symbols_none, symbols_bad, default_bad, symbols_fine}
-use borrow.Author.Rules.{rules}
 use Rattle.schema.proofs.definitions.put_checked_symbols.Goals as goal
 
 pub returns-in_default : goal.returns-in_default

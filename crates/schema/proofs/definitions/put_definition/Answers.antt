@@ -1,7 +1,6 @@
 -- `schema::definitions::put_definition` meets its contract.
 -- Assumes nothing.
 use Rattle.schema.proofs.Headed.{headed_old, headed_new}
-use borrow.Author.Rules.{rules}
 use Rattle.schema.proofs.definitions.put_definition.Goals as goal
 
 pub returns-in-Bad : goal.returns-in-Bad

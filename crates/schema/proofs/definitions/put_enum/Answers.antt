@@ -3,7 +3,6 @@
 use Rattle.schema.proofs.Headed.{enum_then}
 use Rattle.schema.proofs.Did.{did_eq, did_stop, did_then, did_titled, did_untitled}
 use mathlib.Core.Path.{refl}
-use borrow.Author.Rules.{rules}
 use Rattle.schema.proofs.definitions.put_enum.Goals as goal
 
 pub returns-in-Bad : goal.returns-in-Bad

@@ -1,7 +1,6 @@
 -- `schema::definitions::put_fixed` meets its contract.
 -- Assumes nothing.
 use Rattle.schema.proofs.Headed.{size_none, size_not, fixed_bad, fixed_done}
-use borrow.Author.Rules.{rules}
 use Rattle.schema.proofs.definitions.put_fixed.Goals as goal
 
 pub returns-in_default : goal.returns-in_default

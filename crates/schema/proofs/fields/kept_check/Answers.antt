@@ -1,7 +1,6 @@
 -- `schema::fields::kept_check` meets its contract.
 -- Assumes nothing.
 use Rattle.schema.proofs.Leaves.{spans, kept_none, kept_long, kept_short}
-use borrow.Author.Rules.{rules}
 use Rattle.schema.proofs.fields.kept_check.Goals as goal
 
 pub returns-in_default : goal.returns-in_default

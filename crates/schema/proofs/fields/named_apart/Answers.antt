@@ -1,7 +1,6 @@
 -- `schema::fields::named_apart` meets its contract.
 -- Assumes nothing.
 use Rattle.schema.proofs.Leaves.{apart_bad, apart_fine}
-use borrow.Author.Rules.{rules}
 use Rattle.schema.proofs.fields.named_apart.Goals as goal
 
 pub returns-in-Bad : goal.returns-in-Bad

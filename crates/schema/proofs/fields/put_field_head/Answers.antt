@@ -4,7 +4,6 @@ use Rattle.schema.proofs.Leaves.{field_none, field_bad, field_stopped, field_lon
 use Rattle.schema.proofs.Within.{simple_within}
 use mathlib.Core.Path.{sym, ◌∙◌}
 use native.Mathlib.Omega.{arith}
-use borrow.Author.Rules.{rules}
 use Rattle.schema.proofs.fields.put_field_head.Goals as goal
 
 pub returns-in_default : goal.returns-in_default

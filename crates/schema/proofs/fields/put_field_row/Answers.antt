@@ -2,7 +2,6 @@
 -- Assumes nothing.
 use native.Mathlib.Omega.{arith}
 use Rattle.schema.proofs.Leaves.{field_plain, field_with, spans}
-use borrow.Author.Rules.{rules}
 use Rattle.schema.proofs.fields.put_field_row.Goals as goal
 
 pub returns-in_default : goal.returns-in_default

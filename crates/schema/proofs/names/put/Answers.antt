@@ -1,7 +1,6 @@
 -- `schema::names::put` meets its contract.
 -- Assumes nothing.
 use Rattle.schema.proofs.Leaves.{put_row}
-use borrow.Author.Rules.{rules}
 use Rattle.schema.proofs.names.put.Goals as goal
 
 pub returns : goal.returns

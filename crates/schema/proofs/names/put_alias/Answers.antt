@@ -3,7 +3,6 @@
 use Rattle.schema.proofs.Leaves.{alias_wrong, alias_kept}
 use Rattle.schema.proofs.Within.{alias_held}
 use native.Mathlib.Omega.{arith}
-use borrow.Author.Rules.{rules}
 use Rattle.schema.proofs.names.put_alias.Goals as goal
 
 pub slice_bounds-put-end : goal.slice_bounds-put-end

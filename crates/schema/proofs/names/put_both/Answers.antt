@@ -4,7 +4,6 @@ use native.Mathlib.Omega.{arith}
 use Rattle.schema.proofs.Leaves.{put_both}
 use Rattle.form.proofs.Laws.{copied}
 use Rattle.view.proofs.Known.{literal_lent}
-use borrow.Author.Rules.{rules}
 use Rattle.schema.proofs.names.put_both.Goals as goal
 
 pub overflow_add-start : goal.overflow_add-start

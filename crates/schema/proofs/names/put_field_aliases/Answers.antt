@@ -1,18 +1,10 @@
 -- `schema::names::put_field_aliases` meets its contract: what the rows that are left make of the draft, all make of the first.
 -- Assumes nothing.
 use borrow.Author.Rules.{rules}
-use Rattle.schema.specs.Schema.{field_alias_rows}
 use Rattle.schema.proofs.Steps.{each_done, each_next}
 use Rattle.schema.proofs.Did.{did_none, did_eq, did_stop, did_then}
-use Rattle.schema.specs.Did.{Did}
-use Rattle.schema.specs.Out.{each}
-use Rattle.schema.specs.declared.walked.Walked.{Walked}
 use Rattle.form.proofs.Laws.{visit_less}
-use Rattle.view.specs.Elements.{elements_at}
-use lib.ListN.{length}
-use Prim.Native.Nat.{ℕ}
-use mathlib.Core.List.{List}
-use mathlib.Core.Path.{◌≡◌, refl}
+use mathlib.Core.Path.{refl}
 use Rattle.schema.proofs.names.put_field_aliases.Goals as goal
 
 pub loop-spot-init : goal.loop-spot-init

@@ -1,7 +1,6 @@
 -- `schema::names::put_string` meets its contract.
 -- Assumes nothing.
 use Rattle.schema.proofs.Leaves.{put_string}
-use borrow.Author.Rules.{rules}
 use Rattle.schema.proofs.names.put_string.Goals as goal
 
 pub returns : goal.returns

@@ -1,21 +1,14 @@
 -- `schema::names::put_symbols` meets its contract: what the rows that are left make of the draft, all make of the first.
 -- Assumes nothing.
 use borrow.Author.Rules.{rules}
-use Rattle.schema.specs.Schema.{symbol_rows}
 use Rattle.schema.proofs.Leaves.{symbol_put}
-use Rattle.schema.proofs.Steps.{each_done, each_next, AllWithin, within_start, within_first, within_next}
+use Rattle.schema.proofs.Steps.{each_done, each_next, within_start, within_first, within_next}
 use Rattle.schema.proofs.Did.{did_none, did_eq, did_then}
 use Rattle.view.proofs.Laws.{left_start}
-use Rattle.schema.specs.Did.{Did}
 use Rattle.schema.specs.Out.{each}
-use Rattle.schema.specs.declared.walked.Walked.{Walked}
 use Rattle.form.proofs.Laws.{visit_less}
-use Rattle.view.specs.Elements.{elements_at}
-use lib.ListN.{length}
-use Prim.Native.Nat.{ℕ}
-use mathlib.Core.List.{List}
 use native.Mathlib.Omega.{arith}
-use mathlib.Core.Path.{◌≡◌, refl, sym, ap}
+use mathlib.Core.Path.{refl, sym, ap}
 use Rattle.schema.proofs.names.put_symbols.Goals as goal
 
 pub loop-spot-init : goal.loop-spot-init

@@ -1,7 +1,6 @@
 -- `schema::words::note_of` meets its contract.
 -- Assumes nothing.
 use Rattle.schema.proofs.Leaves.{note_bytes, note_other}
-use borrow.Author.Rules.{rules}
 use Rattle.schema.proofs.words.note_of.Goals as goal
 
 pub returns-then-number : goal.returns-then-number

@@ -1,7 +1,6 @@
 -- `schema::words::put_primitive` meets its contract.
 -- Assumes nothing.
 use Rattle.schema.proofs.Leaves.{primitive_old, primitive_new, put_row}
-use borrow.Author.Rules.{rules}
 use Rattle.schema.proofs.words.put_primitive.Goals as goal
 
 pub returns-in-Bad : goal.returns-in-Bad

@@ -13,10 +13,10 @@ pub loop-i-init : goal.loop-i-init
 loop-i-init c = refl
 
 pub returns-then-not-is_hex : goal.returns-then-not-is_hex
-returns-then-not-is_hex c = hex_bad _ _ _ c.loop-i.invariant c.loop-i-test.true (sym c.is_hex.ensures ∙ not-true _ c.if-not-is_hex.true-raw)
+returns-then-not-is_hex c = hex_bad _ _ _ c.loop-i.invariant c.loop-i-test.true (sym c.is_hex.ensures ∙ c.if-not-is_hex.true)
 
 pub loop-i-preserved : goal.loop-i-preserved
-loop-i-preserved c = hex_turn _ _ _ c.loop-i.invariant c.loop-i-test.true (sym c.is_hex.ensures ∙ not-false _ c.if-not-is_hex.false-raw)
+loop-i-preserved c = hex_turn _ _ _ c.loop-i.invariant c.loop-i-test.true (sym c.is_hex.ensures ∙ c.if-not-is_hex.false)
 
 pub returns : goal.returns
 returns c = hex_end _ _ _ c.loop-i.invariant c.loop-i-test.false

@@ -7,7 +7,7 @@ use Rattle.script.proofs.HexLaws.{unhex_bad, unhex_bytes}
 use Rattle.script.proofs.hex.unhex.Goals as goal
 
 pub returns-then-not-is_bytes : goal.returns-then-not-is_bytes
-returns-then-not-is_bytes c = unhex_bad _ (sym c.is_bytes.ensures ∙ not-true _ c.if-not-is_bytes.true-raw) _
+returns-then-not-is_bytes c = unhex_bad _ (sym c.is_bytes.ensures ∙ c.if-not-is_bytes.true) _
 
 pub returns : goal.returns
-returns c = unhex_bytes _ (sym c.is_bytes.ensures ∙ not-false _ c.if-not-is_bytes.false-raw) _ _ _ c.pairs-n.ensures.0 c.pairs-n.ensures.1
+returns c = unhex_bytes _ (sym c.is_bytes.ensures ∙ c.if-not-is_bytes.false) _ _ _ c.pairs-n.ensures.0 c.pairs-n.ensures.1

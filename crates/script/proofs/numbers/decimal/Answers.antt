@@ -17,25 +17,25 @@ pub loop-i-init : goal.loop-i-init
 loop-i-init c = (search rules, number_some _ c.if-word-eq0.false)
 
 pub returns-then-not-is_digit : goal.returns-then-not-is_digit
-returns-then-not-is_digit c = number_bad _ _ _ _ c.loop-i.invariant.1 c.loop-i-test.true (sym c.is_digit.ensures ∙ not-true _ c.if-not-is_digit.true-raw)
+returns-then-not-is_digit c = number_bad _ _ _ _ c.loop-i.invariant.1 c.loop-i-test.true (sym c.is_digit.ensures ∙ c.if-not-is_digit.true)
 
 pub overflow_sub-d : goal.overflow_sub-d
-overflow_sub-d c = let h = bounds 48 57 (get_or c.args.word.now c.loop-i.i 0) (sym c.is_digit.ensures ∙ not-false _ c.if-not-is_digit.false-raw) in omega arith
+overflow_sub-d c = let h = bounds 48 57 (get_or c.args.word.now c.loop-i.i 0) (sym c.is_digit.ensures ∙ c.if-not-is_digit.false) in omega arith
 
 pub overflow_sub-d-in-loop-i : goal.overflow_sub-d-in-loop-i
-overflow_sub-d-in-loop-i c = let h = bounds 48 57 (get_or c.args.word.now c.loop-i.i 0) (sym c.is_digit.ensures ∙ not-false _ c.if-not-is_digit.false-raw) in omega arith
+overflow_sub-d-in-loop-i c = let h = bounds 48 57 (get_or c.args.word.now c.loop-i.i 0) (sym c.is_digit.ensures ∙ c.if-not-is_digit.false) in omega arith
 
 pub returns-then-v-d : goal.returns-then-v-d
-returns-then-v-d c = let h = bounds 48 57 (get_or c.args.word.now c.loop-i.i 0) (sym c.is_digit.ensures ∙ not-false _ c.if-not-is_digit.false-raw) in number_big _ _ _ _ c.loop-i.invariant.1 c.loop-i-test.true c.wide-d.ensures.0 (sym c.is_digit.ensures ∙ not-false _ c.if-not-is_digit.false-raw) (omega arith)
+returns-then-v-d c = let h = bounds 48 57 (get_or c.args.word.now c.loop-i.i 0) (sym c.is_digit.ensures ∙ c.if-not-is_digit.false) in number_big _ _ _ _ c.loop-i.invariant.1 c.loop-i-test.true c.wide-d.ensures.0 (sym c.is_digit.ensures ∙ c.if-not-is_digit.false) (omega arith)
 
 pub overflow_mul-v : goal.overflow_mul-v
-overflow_mul-v c = let h = bounds 48 57 (get_or c.args.word.now c.loop-i.i 0) (sym c.is_digit.ensures ∙ not-false _ c.if-not-is_digit.false-raw) in omega arith
+overflow_mul-v c = let h = bounds 48 57 (get_or c.args.word.now c.loop-i.i 0) (sym c.is_digit.ensures ∙ c.if-not-is_digit.false) in omega arith
 
 pub overflow_add-v : goal.overflow_add-v
-overflow_add-v c = let h = bounds 48 57 (get_or c.args.word.now c.loop-i.i 0) (sym c.is_digit.ensures ∙ not-false _ c.if-not-is_digit.false-raw) in omega arith
+overflow_add-v c = let h = bounds 48 57 (get_or c.args.word.now c.loop-i.i 0) (sym c.is_digit.ensures ∙ c.if-not-is_digit.false) in omega arith
 
 pub loop-i-preserved : goal.loop-i-preserved
-loop-i-preserved c = let h = bounds 48 57 (get_or c.args.word.now c.loop-i.i 0) (sym c.is_digit.ensures ∙ not-false _ c.if-not-is_digit.false-raw) in (omega arith, number_turn _ _ _ _ c.loop-i.invariant.1 c.loop-i-test.true c.wide-d.ensures.0 (sym c.is_digit.ensures ∙ not-false _ c.if-not-is_digit.false-raw))
+loop-i-preserved c = let h = bounds 48 57 (get_or c.args.word.now c.loop-i.i 0) (sym c.is_digit.ensures ∙ c.if-not-is_digit.false) in (omega arith, number_turn _ _ _ _ c.loop-i.invariant.1 c.loop-i-test.true c.wide-d.ensures.0 (sym c.is_digit.ensures ∙ c.if-not-is_digit.false))
 
 pub returns : goal.returns
 returns c = number_end _ _ _ _ c.loop-i.invariant.1 c.loop-i-test.false c.loop-i.invariant.0

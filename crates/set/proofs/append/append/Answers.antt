@@ -3,7 +3,6 @@
 use Rattle.set.proofs.Places.{counts_asks}
 use Rattle.set.proofs.Appends.{ended_by}
 use Rattle.set.proofs.Accepts.{append_refused, misfit_asks, append_misfit, append_done}
-use borrow.Author.Rules.{rules}
 use native.Mathlib.Omega.{arith}
 use Rattle.set.proofs.append.append.Goals as goal
 

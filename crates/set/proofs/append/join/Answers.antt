@@ -2,7 +2,6 @@
 -- Assumes nothing.
 use Rattle.set.proofs.Places.{counts_asks}
 use Rattle.set.proofs.Appends.{rows_most, bytes_most, join_rows, join_strings, join_asks, push_asks, join_fault, join_done}
-use borrow.Author.Rules.{rules}
 use native.Mathlib.Omega.{arith}
 use Rattle.set.proofs.append.join.Goals as goal
 

@@ -2,7 +2,6 @@
 -- Assumes nothing.
 use mathlib.Core.Path.{sym, ◌∙◌}
 use Rattle.fits.proofs.MisfitLaws.{none_fit}
-use borrow.Author.Rules.{rules}
 use Rattle.set.proofs.append.misfit.Goals as goal
 
 pub returns-then-has_defaults : goal.returns-then-has_defaults

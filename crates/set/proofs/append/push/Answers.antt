@@ -1,7 +1,6 @@
 -- `set::append::push` meets its contract.
 -- Assumes nothing.
 use Rattle.set.proofs.Appends.{pushes}
-use borrow.Author.Rules.{rules}
 use Rattle.set.proofs.append.push.Goals as goal
 
 pub returns : goal.returns

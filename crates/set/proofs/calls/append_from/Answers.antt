@@ -1,12 +1,8 @@
 -- `set::calls::append_from` meets its contract.
 -- Assumes nothing.
 use mathlib.Core.Path.{sym, ◌∙◌}
-use Prim.Native.Nat.{◌-◌, ◌≤◌}
-use Rattle.row.specs.Sets.{decode}
-use lib.ListN.{drop}
-use Rattle.set.specs.Lists.{append_all}
 use Rattle.set.proofs.Places.{is_long, counts_asks}
-use Rattle.set.proofs.Rests.{places_asks, place_asks, Left, left_all, end_asks, start_asks, bytes_order, rest_asks, rest_refused, rest_more, rest_end}
+use Rattle.set.proofs.Rests.{places_asks, place_asks, left_all, end_asks, start_asks, bytes_order, rest_asks, rest_refused, rest_more, rest_end}
 use borrow.Author.Rules.{rules}
 use native.Mathlib.Omega.{arith}
 use Rattle.set.proofs.calls.append_from.Goals as goal
@@ -39,7 +35,7 @@ pub append-a-requires : goal.append-a-requires
 append-a-requires c = rest_asks _ c.requires.1 c.loop-i.i (omega (arith, c.declarations-n.ensures, c.loop-i-test.true, c.requires.3)) _ c.rows_of-rows.ensures.0 _ _ _ c.loop-i.invariant.1 _ c.strings_before.ensures _ c.strings_before-in-loop-i.ensures
 
 pub shape_of-out-in-Refused : goal.shape_of-out-in-Refused
-shape_of-out-in-Refused c = c.append-a.auto.0 ∙ is_long _ c.loop-i.invariant.1.well ∙ sym (is_long _ c.requires.0)
+shape_of-out-in-Refused c = c.append-a.auto.out ∙ is_long _ c.loop-i.invariant.1.well ∙ sym (is_long _ c.requires.0)
 
 pub returns-in-Refused : goal.returns-in-Refused
 returns-in-Refused c = rest_refused _ c.requires.1 c.loop-i.i (omega (arith, c.declarations-n.ensures, c.loop-i-test.true, c.requires.3)) _ c.rows_of-rows.ensures.0 _ _ _ c.loop-i.invariant.1 _ c.strings_before.ensures _ c.strings_before-in-loop-i.ensures _ _ c.append-a.ensures _ c.in-Refused.is _

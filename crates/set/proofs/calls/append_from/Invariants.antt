@@ -1,14 +1,10 @@
 -- `set::calls::append_from` meets its contract.
 -- Assumes nothing.
-use mathlib.Core.Path.{sym, ◌∙◌}
 use Prim.Native.Nat.{◌-◌, ◌≤◌}
 use Rattle.row.specs.Sets.{decode}
 use lib.ListN.{drop}
 use Rattle.set.specs.Lists.{append_all}
-use Rattle.set.proofs.Places.{is_long, counts_asks}
-use Rattle.set.proofs.Rests.{places_asks, place_asks, Left, left_all, end_asks, start_asks, bytes_order, rest_asks, rest_refused, rest_more, rest_end}
-use borrow.Author.Rules.{rules}
-use native.Mathlib.Omega.{arith}
+use Rattle.set.proofs.Rests.{Left}
 use Rattle.set.proofs.calls.append_from.Given as goal
 
 abbrev pub invariant-loop-i : goal.invariant-loop-i

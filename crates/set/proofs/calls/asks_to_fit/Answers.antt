@@ -1,6 +1,5 @@
 -- `set::calls::asks_to_fit` meets its contract.
 -- Assumes nothing.
-use borrow.Author.Rules.{rules}
 use native.Mathlib.Omega.{arith}
 use Rattle.set.proofs.calls.asks_to_fit.Goals as goal
 

@@ -1,7 +1,6 @@
 -- `set::calls::copy_before` meets its contract.
 -- Assumes nothing.
-use Prim.Native.Nat.{◌-◌, ◌≤◌}
-use Rattle.set.proofs.Rests.{Copied, copied_none, place_asks, copy_asks, copied_more, copied_long, copied_all}
+use Rattle.set.proofs.Rests.{copied_none, place_asks, copy_asks, copied_more, copied_long, copied_all}
 use borrow.Author.Rules.{rules}
 use native.Mathlib.Omega.{arith}
 use Rattle.set.proofs.calls.copy_before.Goals as goal

@@ -1,9 +1,7 @@
 -- `set::calls::copy_before` meets its contract.
 -- Assumes nothing.
 use Prim.Native.Nat.{◌-◌, ◌≤◌}
-use Rattle.set.proofs.Rests.{Copied, copied_none, place_asks, copy_asks, copied_more, copied_long, copied_all}
-use borrow.Author.Rules.{rules}
-use native.Mathlib.Omega.{arith}
+use Rattle.set.proofs.Rests.{Copied}
 use Rattle.set.proofs.calls.copy_before.Given as goal
 
 abbrev pub invariant-loop-i : goal.invariant-loop-i

@@ -1,7 +1,6 @@
 -- `set::calls::open` meets its contract.
 -- Assumes nothing.
 use Rattle.set.proofs.CallLaws.{open_not, open_done}
-use borrow.Author.Rules.{rules}
 use Rattle.set.proofs.calls.open.Goals as goal
 
 pub returns-then-mem-ne-LENGTH : goal.returns-then-mem-ne-LENGTH

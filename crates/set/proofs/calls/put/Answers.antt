@@ -3,30 +3,28 @@
 use mathlib.Core.Path.{refl, sym, ◌∙◌}
 use Rattle.set.proofs.Places.{is_long}
 use Rattle.set.proofs.CallLaws.{put_not, put_nowhere, put_many, put_asks, put_bad, put_read}
-use borrow.Author.Rules.{rules}
-use borrow.Author.Tests.{not-true, not-false}
 use Rattle.set.proofs.calls.put.Goals as goal
 
 pub returns-then-not-well_formed : goal.returns-then-not-well_formed
-returns-then-not-well_formed c = put_not _ _ _ (sym c.well_formed-2.ensures ∙ not-true _ c.if-not-well_formed.true-raw) c.refused.ensures
+returns-then-not-well_formed c = put_not _ _ _ (sym c.well_formed-2.ensures ∙ c.if-not-well_formed.true) c.refused.ensures
 
 pub declarations-requires : goal.declarations-requires
-declarations-requires c = is_long _ (sym c.well_formed-2.ensures ∙ not-false _ c.if-not-well_formed.false-raw)
+declarations-requires c = is_long _ (sym c.well_formed-2.ensures ∙ c.if-not-well_formed.false)
 
 pub returns-then-declarations-place : goal.returns-then-declarations-place
-returns-then-declarations-place c = put_nowhere _ _ _ (sym c.well_formed-2.ensures ∙ not-false _ c.if-not-well_formed.false-raw) _ c.declarations.ensures c.if-declarations-place.true c.refused-then-declarations-place.ensures
+returns-then-declarations-place c = put_nowhere _ _ _ (sym c.well_formed-2.ensures ∙ c.if-not-well_formed.false) _ c.declarations.ensures c.if-declarations-place.true c.refused-then-declarations-place.ensures
 
 pub returns-then-place-ge-DECLARATIONS : goal.returns-then-place-ge-DECLARATIONS
-returns-then-place-ge-DECLARATIONS c = put_many _ _ _ (sym c.well_formed-2.ensures ∙ not-false _ c.if-not-well_formed.false-raw) _ c.declarations.ensures c.if-declarations-place.false c.if-place-ge-DECLARATIONS.true c.refused-then-place-ge-DECLARATIONS.ensures
+returns-then-place-ge-DECLARATIONS c = put_many _ _ _ (sym c.well_formed-2.ensures ∙ c.if-not-well_formed.false) _ c.declarations.ensures c.if-declarations-place.false c.if-place-ge-DECLARATIONS.true c.refused-then-place-ge-DECLARATIONS.ensures
 
 pub read_text-read-requires : goal.read_text-read-requires
 read_text-read-requires c = refl
 
 pub put_rows-requires : goal.put_rows-requires
-put_rows-requires c = put_asks _ _ _ (sym c.well_formed-2.ensures ∙ not-false _ c.if-not-well_formed.false-raw) _ c.declarations.ensures c.if-declarations-place.false c.if-place-ge-DECLARATIONS.false c.read_text-read.ensures _ c.in-Read.is
+put_rows-requires c = put_asks _ _ _ (sym c.well_formed-2.ensures ∙ c.if-not-well_formed.false) _ c.declarations.ensures c.if-declarations-place.false c.if-place-ge-DECLARATIONS.false c.read_text-read.ensures _ c.in-Read.is
 
 pub returns-in-Bad : goal.returns-in-Bad
-returns-in-Bad c = put_bad _ _ _ (sym c.well_formed-2.ensures ∙ not-false _ c.if-not-well_formed.false-raw) _ c.declarations.ensures c.if-declarations-place.false c.if-place-ge-DECLARATIONS.false c.read_text-read.ensures c.in-Bad.is c.placed.ensures
+returns-in-Bad c = put_bad _ _ _ (sym c.well_formed-2.ensures ∙ c.if-not-well_formed.false) _ c.declarations.ensures c.if-declarations-place.false c.if-place-ge-DECLARATIONS.false c.read_text-read.ensures c.in-Bad.is c.placed.ensures
 
 pub returns-in-Read : goal.returns-in-Read
-returns-in-Read c = put_read _ _ _ (sym c.well_formed-2.ensures ∙ not-false _ c.if-not-well_formed.false-raw) _ c.declarations.ensures c.if-declarations-place.false c.if-place-ge-DECLARATIONS.false c.read_text-read.ensures _ c.in-Read.is c.put_rows.ensures
+returns-in-Read c = put_read _ _ _ (sym c.well_formed-2.ensures ∙ c.if-not-well_formed.false) _ c.declarations.ensures c.if-declarations-place.false c.if-place-ge-DECLARATIONS.false c.read_text-read.ensures _ c.in-Read.is c.put_rows.ensures

@@ -30,10 +30,10 @@ pub append_from-b-requires : goal.append_from-b-requires
 append_from-b-requires c = behind_asks _ c.requires.0 _ c.requires.1 _ c.copy_before.ensures _ _ _ _ _ c.append-a.ensures _ c.in-Done.is c.requires.2
 
 pub slice_bounds-settle-end : goal.slice_bounds-settle-end
-slice_bounds-settle-end c = sym (c.append_from-b.auto.0 ∙ is_long _ (behind_asks _ c.requires.0 _ c.requires.1 _ c.copy_before.ensures _ _ _ _ _ c.append-a.ensures _ c.in-Done.is c.requires.2).0)
+slice_bounds-settle-end c = sym (c.append_from-b.auto.out ∙ is_long _ (behind_asks _ c.requires.0 _ c.requires.1 _ c.copy_before.ensures _ _ _ _ _ c.append-a.ensures _ c.in-Done.is c.requires.2).0)
 
 pub settle-requires : goal.settle-requires
-settle-requires c = is_long _ c.requires.0 ∙ sym (c.append_from-b.auto.0 ∙ is_long _ (behind_asks _ c.requires.0 _ c.requires.1 _ c.copy_before.ensures _ _ _ _ _ c.append-a.ensures _ c.in-Done.is c.requires.2).0)
+settle-requires c = is_long _ c.requires.0 ∙ sym (c.append_from-b.auto.out ∙ is_long _ (behind_asks _ c.requires.0 _ c.requires.1 _ c.copy_before.ensures _ _ _ _ _ c.append-a.ensures _ c.in-Done.is c.requires.2).0)
 
 pub returns : goal.returns
 returns c = inside_settled _ c.requires.0 _ c.requires.1 _ c.copy_before.ensures _ _ _ _ _ c.append-a.ensures _ c.in-Done.is _ c.append_from-b.ensures c.settle.ensures

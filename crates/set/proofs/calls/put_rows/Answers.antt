@@ -2,7 +2,6 @@
 -- Assumes nothing.
 use Rattle.set.proofs.Places.{is_long}
 use Rattle.set.proofs.CallLaws.{last_rows}
-use borrow.Author.Rules.{rules}
 use Rattle.set.proofs.calls.put_rows.Goals as goal
 
 pub declarations-requires : goal.declarations-requires

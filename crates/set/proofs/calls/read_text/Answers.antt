@@ -1,8 +1,7 @@
 -- `set::calls::read_text` meets its contract.
 -- Assumes nothing.
 use Rattle.set.proofs.Drafts.{wrote}
-use borrow.Author.Rules.{rules}
 use Rattle.set.proofs.calls.read_text.Goals as goal
 
 pub returns : goal.returns
-returns c = wrote _ _ _ c.requires c.declare.ensures c.declare.auto.1.0
+returns c = wrote _ _ _ c.requires c.declare.ensures c.declare.auto.draft

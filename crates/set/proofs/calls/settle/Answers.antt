@@ -1,7 +1,6 @@
 -- `set::calls::settle` meets its contract.
 -- Assumes nothing.
 use Rattle.set.proofs.CallLaws.{settle_no, settle_done}
-use borrow.Author.Rules.{rules}
 use Rattle.set.proofs.calls.settle.Goals as goal
 
 pub returns-in-Refused : goal.returns-in-Refused

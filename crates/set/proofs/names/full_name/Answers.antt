@@ -2,7 +2,6 @@
 -- Assumes nothing.
 use mathlib.Core.Path.{sym, ◌∙◌}
 use Rattle.set.proofs.NameLaws.{full_name_lem, full_none}
-use borrow.Author.Rules.{rules}
 use Rattle.set.proofs.names.full_name.Goals as goal
 
 pub name_at-requires : goal.name_at-requires

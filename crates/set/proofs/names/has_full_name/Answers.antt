@@ -3,7 +3,6 @@
 use mathlib.Core.Path.{sym, ◌∙◌}
 use Rattle.resolve.specs.Kinds.{is_definition, is_named}
 use Rattle.set.specs.Naming.{has_full_name}
-use borrow.Author.Rules.{rules}
 use Rattle.set.proofs.names.has_full_name.Goals as goal
 
 pub returns-then-is_kind : goal.returns-then-is_kind

@@ -2,7 +2,6 @@
 -- Assumes nothing.
 use Rattle.set.proofs.Places.{is_long}
 use Rattle.set.proofs.NameLaws.{none_place, rows_asks, none_row, before_asks, row_asks, is_name_lem}
-use borrow.Author.Rules.{rules}
 use native.Mathlib.Omega.{arith}
 use Rattle.set.proofs.names.name_at.Goals as goal
 

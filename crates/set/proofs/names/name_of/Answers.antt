@@ -2,7 +2,6 @@
 -- Assumes nothing.
 use mathlib.Core.Path.{sym, ◌∙◌}
 use Rattle.set.proofs.NameLaws.{has_name, no_name}
-use borrow.Author.Rules.{rules}
 use Rattle.set.proofs.names.name_of.Goals as goal
 
 pub returns-then-has_full_name : goal.returns-then-has_full_name

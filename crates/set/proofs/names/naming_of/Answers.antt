@@ -2,18 +2,16 @@
 -- Assumes nothing.
 use mathlib.Core.Path.{sym, ◌∙◌}
 use Rattle.set.proofs.NameLaws.{naming_not, naming_none, naming_done}
-use borrow.Author.Rules.{rules}
-use borrow.Author.Tests.{not-true, not-false}
 use Rattle.set.proofs.names.naming_of.Goals as goal
 
 pub returns-then-not-well_formed : goal.returns-then-not-well_formed
-returns-then-not-well_formed c = naming_not _ _ _ (sym c.well_formed-2.ensures ∙ not-true _ c.if-not-well_formed.true-raw) c.refused_name.ensures
+returns-then-not-well_formed c = naming_not _ _ _ (sym c.well_formed-2.ensures ∙ c.if-not-well_formed.true) c.refused_name.ensures
 
 pub name_at-name-requires : goal.name_at-name-requires
-name_at-name-requires c = sym c.well_formed-2.ensures ∙ not-false _ c.if-not-well_formed.false-raw
+name_at-name-requires c = sym c.well_formed-2.ensures ∙ c.if-not-well_formed.false
 
 pub returns-then-name-eq0 : goal.returns-then-name-eq0
-returns-then-name-eq0 c = naming_none _ _ _ (sym c.well_formed-2.ensures ∙ not-false _ c.if-not-well_formed.false-raw) _ c.name_at-name.ensures.0 c.if-name-eq0.true c.refused_name-then-name-eq0.ensures
+returns-then-name-eq0 c = naming_none _ _ _ (sym c.well_formed-2.ensures ∙ c.if-not-well_formed.false) _ c.name_at-name.ensures.0 c.if-name-eq0.true c.refused_name-then-name-eq0.ensures
 
 pub returns : goal.returns
-returns c = naming_done _ _ _ (sym c.well_formed-2.ensures ∙ not-false _ c.if-not-well_formed.false-raw) _ c.name_at-name.ensures.0 c.if-name-eq0.false
+returns c = naming_done _ _ _ (sym c.well_formed-2.ensures ∙ c.if-not-well_formed.false) _ c.name_at-name.ensures.0 c.if-name-eq0.false

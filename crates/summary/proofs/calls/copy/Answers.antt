@@ -1,10 +1,7 @@
 -- `summary::calls::copy` meets its contract: so many numbers are stored.
 -- Assumes nothing.
-use mathlib.Core.Path.{◌≡◌, refl}
-use Prim.Native.Nat.{◌-◌, ◌≤◌}
+use mathlib.Core.Path.{refl}
 use borrow.Author.Rules.{rules}
-use lib.ListN.{length, take}
-use Rattle.ground.specs.Bytes.{store}
 use Rattle.summary.proofs.CopyLaws.{copy_start, copy_length, copy_turn, copy_end}
 use Rattle.summary.proofs.calls.copy.Goals as goal
 

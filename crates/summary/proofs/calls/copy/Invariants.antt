@@ -1,11 +1,9 @@
 -- `summary::calls::copy` meets its contract: so many numbers are stored.
 -- Assumes nothing.
-use mathlib.Core.Path.{◌≡◌, refl}
+use mathlib.Core.Path.{◌≡◌}
 use Prim.Native.Nat.{◌-◌, ◌≤◌}
-use borrow.Author.Rules.{rules}
 use lib.ListN.{length, take}
 use Rattle.ground.specs.Bytes.{store}
-use Rattle.summary.proofs.CopyLaws.{copy_start, copy_length, copy_turn, copy_end}
 use Rattle.summary.proofs.calls.copy.Given as goal
 
 abbrev pub invariant-loop-i : goal.invariant-loop-i

@@ -1,7 +1,6 @@
 -- `summary::calls::marker_at` meets its contract.
 -- Assumes nothing.
 use Rattle.summary.proofs.MarkerLaws.{marker_none, marker_other, marker_cut, marker_right, marker_wrong}
-use borrow.Author.Rules.{rules}
 use Rattle.summary.proofs.calls.marker_at.Goals as goal
 
 pub returns-then-bytes-eq0 : goal.returns-then-bytes-eq0

@@ -4,7 +4,6 @@ use mathlib.Core.Path.{◌∙◌}
 use Prim.Native.Nat.{ℕ}
 use native.Mathlib.Omega.{arith}
 use lib.ListN.{length-replicate}
-use borrow.Author.Rules.{rules}
 use Rattle.walk.proofs.Laws.{gave_went, gave_stopped}
 use Rattle.summary.proofs.FormedLaws.{formed_long, formed_few, formed_rows, place_few, place_start}
 use Rattle.summary.proofs.ReadLaws.{datum_is, read_stopped, read_left, read_full, read_room, read_given}
@@ -35,10 +34,10 @@ pub bounds-offsets-given : goal.bounds-offsets-given
 bounds-offsets-given c = let g = (gave_went c.in-End.is c.walk.ensures) in omega (arith, g.few)
 
 pub copy-requires : goal.copy-requires
-copy-requires c = (omega (arith, c.if-list-n.false), read_room (gave_went c.in-End.is c.walk.ensures) (c.walk.auto.1.1.1.1.1.0 ∙ length-replicate {A = ℕ} 4097 0))
+copy-requires c = (omega (arith, c.if-list-n.false), read_room (gave_went c.in-End.is c.walk.ensures) (c.walk.auto.list ∙ length-replicate {A = ℕ} 4097 0))
 
 pub returns-in-Stopped : goal.returns-in-Stopped
 returns-in-Stopped c = read_stopped _ _ _ _ _ _ (datum_is _ c.requires.0 _ c.declarations.ensures _ c.rows_before-rows.ensures _ c.requires.1 _ c.rows_before-start.ensures _ _) (gave_stopped c.in-Stopped.is c.walk.ensures) c.placed.ensures
 
 pub returns-else-list-n : goal.returns-else-list-n
-returns-else-list-n c = read_given _ _ _ _ _ _ (datum_is _ c.requires.0 _ c.declarations.ensures _ c.rows_before-rows.ensures _ c.requires.1 _ c.rows_before-start.ensures _ _) (gave_went c.in-End.is c.walk.ensures) (omega (arith, c.if-to-bytes.false)) (omega (arith, c.if-list-n.false)) (c.walk.auto.1.1.1.1.1.0 ∙ length-replicate {A = ℕ} 4097 0) c.copy.ensures
+returns-else-list-n c = read_given _ _ _ _ _ _ (datum_is _ c.requires.0 _ c.declarations.ensures _ c.rows_before-rows.ensures _ c.requires.1 _ c.rows_before-start.ensures _ _) (gave_went c.in-End.is c.walk.ensures) (omega (arith, c.if-to-bytes.false)) (omega (arith, c.if-list-n.false)) (c.walk.auto.list ∙ length-replicate {A = ℕ} 4097 0) c.copy.ensures

@@ -1,6 +1,5 @@
 -- `values::members::found_if` meets its contract.
 -- Assumes nothing.
-use borrow.Author.Rules.{rules}
 use Rattle.values.proofs.members.found_if.Goals as goal
 
 pub returns-then-is : goal.returns-then-is

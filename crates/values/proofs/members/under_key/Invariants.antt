@@ -1,9 +1,8 @@
 -- `values::members::under_key` meets its contract: what will be found is the answer.
 -- Assumes nothing.
 use lib.ListN.{length}
-use borrow.Author.Rules.{rules}
-use Rattle.values.proofs.MemberLaws.{Seeking, seek_start, seek_turn, seek_end}
-use Rattle.view.proofs.Laws.{key_of, pass_less}
+use Rattle.values.proofs.MemberLaws.{Seeking}
+use Rattle.view.proofs.Laws.{key_of}
 use Rattle.view.specs.Strings.{string_at}
 use Rattle.view.specs.Members.{keys_at}
 use Rattle.values.proofs.members.under_key.Given as goal

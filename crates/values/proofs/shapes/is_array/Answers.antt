@@ -1,6 +1,5 @@
 -- `values::shapes::is_array` meets its contract.
 -- Assumes nothing.
-use borrow.Author.Rules.{rules}
 use Rattle.values.specs.Values.{is_array}
 use Rattle.values.proofs.shapes.is_array.Goals as goal
 

@@ -1,6 +1,5 @@
 -- `values::shapes::is_boolean` meets its contract.
 -- Assumes nothing.
-use borrow.Author.Rules.{rules}
 use Rattle.values.proofs.ValueLaws.{boolean_true, boolean_other}
 use Rattle.values.proofs.shapes.is_boolean.Goals as goal
 

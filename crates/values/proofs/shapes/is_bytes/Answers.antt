@@ -1,7 +1,6 @@
 -- `values::shapes::is_bytes` meets its contract.
 -- Assumes nothing.
 use Rattle.values.proofs.ValueLaws.{bytes_none, bytes_narrow, bytes_wide}
-use borrow.Author.Rules.{rules}
 use Rattle.values.proofs.shapes.is_bytes.Goals as goal
 
 pub returns-in-Value : goal.returns-in-Value

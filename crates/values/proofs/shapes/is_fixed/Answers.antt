@@ -1,7 +1,6 @@
 -- `values::shapes::is_fixed` meets its contract.
 -- Assumes nothing.
 use Rattle.values.proofs.ValueLaws.{fixed_none, fixed_narrow, fixed_wide}
-use borrow.Author.Rules.{rules}
 use Rattle.values.proofs.shapes.is_fixed.Goals as goal
 
 pub returns-in-Value : goal.returns-in-Value

@@ -1,6 +1,5 @@
 -- `values::shapes::is_null` meets its contract.
 -- Assumes nothing.
-use borrow.Author.Rules.{rules}
 use Rattle.values.specs.Values.{is_null}
 use Rattle.values.proofs.shapes.is_null.Goals as goal
 

@@ -1,6 +1,5 @@
 -- `values::shapes::is_number` meets its contract.
 -- Assumes nothing.
-use borrow.Author.Rules.{rules}
 use Rattle.values.proofs.ValueLaws.{number_minus, number_digit, number_none}
 use Rattle.values.proofs.shapes.is_number.Goals as goal
 

@@ -1,6 +1,5 @@
 -- `values::shapes::is_object` meets its contract.
 -- Assumes nothing.
-use borrow.Author.Rules.{rules}
 use Rattle.values.specs.Values.{is_object}
 use Rattle.values.proofs.shapes.is_object.Goals as goal
 

@@ -1,6 +1,5 @@
 -- `values::shapes::is_string` meets its contract.
 -- Assumes nothing.
-use borrow.Author.Rules.{rules}
 use Rattle.values.specs.Values.{is_string}
 use Rattle.values.proofs.shapes.is_string.Goals as goal
 

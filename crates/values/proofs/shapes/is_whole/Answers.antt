@@ -1,6 +1,5 @@
 -- `values::shapes::is_whole` meets its contract.
 -- Assumes nothing.
-use borrow.Author.Rules.{rules}
 use native.Mathlib.Omega.{arith}
 use Rattle.values.proofs.ValueLaws.{whole_minus, whole_digits}
 use Rattle.view.proofs.Laws.{in_text}

@@ -1,15 +1,11 @@
 -- `values::shapes::narrow_size` meets its contract: what is left of the string is narrow where all of it is, and those that were counted and those that are
 -- left are all.
 -- Assumes nothing.
-use lib.ListN.{length}
-use Prim.Native.Nat.{◌+◌}
-use mathlib.Core.Path.{◌≡◌, ap}
-use borrow.Author.Rules.{rules}
+use mathlib.Core.Path.{ap}
 use native.Mathlib.Omega.{arith}
 use Rattle.values.proofs.ValueLaws.{narrow_all, narrow_not, narrow_end, narrow_stop, narrow_on, left_less, characters_end, characters_same, characters_more, characters_bound}
 use Rattle.view.proofs.Laws.{read_within}
 use Rattle.values.specs.Values.{characters, is_narrow}
-use Rattle.view.specs.Strings.{string_at, left_of, Within}
 use Rattle.values.proofs.shapes.narrow_size.Goals as goal
 
 pub loop-b-init : goal.loop-b-init

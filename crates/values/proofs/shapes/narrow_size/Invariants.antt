@@ -3,11 +3,7 @@
 -- Assumes nothing.
 use lib.ListN.{length}
 use Prim.Native.Nat.{◌+◌}
-use mathlib.Core.Path.{◌≡◌, ap}
-use borrow.Author.Rules.{rules}
-use native.Mathlib.Omega.{arith}
-use Rattle.values.proofs.ValueLaws.{narrow_all, narrow_not, narrow_end, narrow_stop, narrow_on, left_less, characters_end, characters_same, characters_more, characters_bound}
-use Rattle.view.proofs.Laws.{read_within}
+use mathlib.Core.Path.{◌≡◌}
 use Rattle.values.specs.Values.{characters, is_narrow}
 use Rattle.view.specs.Strings.{string_at, left_of, Within}
 use Rattle.values.proofs.shapes.narrow_size.Given as goal

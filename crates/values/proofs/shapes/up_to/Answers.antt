@@ -1,6 +1,5 @@
 -- `values::shapes::up_to` meets its contract.
 -- Assumes nothing.
-use borrow.Author.Rules.{rules}
 use Rattle.values.proofs.ValueLaws.{up_to_value, up_to_none}
 use Rattle.values.proofs.shapes.up_to.Goals as goal
 

@@ -2,7 +2,6 @@
 -- Assumes nothing.
 use Rattle.view.specs.Ends.{is_delimiter}
 use borrow.Author.Tests.{eq-eqb, ne_eqb}
-use borrow.Author.Rules.{rules}
 use Rattle.view.proofs.bytes.is_delimiter.Goals as goal
 
 pub returns-then-b-eq44 : goal.returns-then-b-eq44

@@ -1,7 +1,6 @@
 -- `view::elements::first_element` meets its contract.
 -- Assumes nothing.
 use native.Mathlib.Omega.{arith}
-use borrow.Author.Rules.{rules}
 use Rattle.view.proofs.Places.{in_text, element_first, element_none}
 use Rattle.view.proofs.elements.first_element.Goals as goal
 

@@ -1,7 +1,6 @@
 -- `view::elements::next_element` meets its contract.
 -- Assumes nothing.
 use native.Mathlib.Omega.{arith}
-use borrow.Author.Rules.{rules}
 use Rattle.view.proofs.Places.{in_text, element_next, element_last}
 use Rattle.view.proofs.elements.next_element.Goals as goal
 

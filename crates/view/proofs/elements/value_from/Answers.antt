@@ -1,7 +1,6 @@
 -- `view::elements::value_from` meets its contract.
 -- Assumes nothing.
 use mathlib.Core.Path.{sym, ◌∙◌}
-use borrow.Author.Rules.{rules}
 use Rattle.view.proofs.Places.{value_here, value_none}
 use Rattle.view.proofs.elements.value_from.Goals as goal
 

@@ -3,7 +3,6 @@
 use Rattle.view.specs.Ends.{depth_after}
 use borrow.Author.Tests.{eq-eqb, ne_eqb}
 use native.Mathlib.Omega.{arith}
-use borrow.Author.Rules.{rules}
 use Rattle.view.proofs.ends.depth_after.Goals as goal
 
 pub returns-then-b-eq91 : goal.returns-then-b-eq91

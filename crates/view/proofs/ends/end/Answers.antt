@@ -1,7 +1,6 @@
 -- `view::ends::end` meets its contract.
 -- Assumes nothing.
 use Rattle.view.proofs.Known.{known_end}
-use borrow.Author.Rules.{rules}
 use Rattle.view.proofs.ends.end.Goals as goal
 
 pub returns-then-e-gt0 : goal.returns-then-e-gt0

@@ -1,11 +1,7 @@
 -- `view::ends::literal_end` meets its contract.
 -- Assumes nothing.
 use Rattle.view.proofs.Places.{literal_step, literal_stop, literal_out}
-use Rattle.view.specs.Ends.{literal_end}
-use borrow.Author.Rules.{rules}
-use lib.ListN.{length}
-use Prim.Native.Nat.{◌-◌}
-use mathlib.Core.Path.{◌≡◌, refl, sym, ◌∙◌}
+use mathlib.Core.Path.{refl, sym, ◌∙◌}
 use Rattle.view.proofs.ends.literal_end.Goals as goal
 
 pub loop-p-init : goal.loop-p-init

@@ -2,12 +2,8 @@
 -- Assumes nothing.
 use Rattle.view.proofs.Places.{closing_out}
 use Rattle.view.proofs.Closing.{closing_ahead, bracket_string, bracket_none, bracket_last, bracket_more}
-use Rattle.view.specs.Ends.{closing_of}
 use native.Mathlib.Omega.{arith}
-use lib.ListN.{length}
-use Prim.Native.Nat.{◌-◌, ◌+◌, ◌<◌, ◌≤◌}
-use mathlib.Core.Path.{◌≡◌, refl, ◌∙◌}
-use borrow.Author.Rules.{rules}
+use mathlib.Core.Path.{refl, ◌∙◌}
 use Rattle.view.proofs.ends.past_bracket.Goals as goal
 
 pub loop-p-init : goal.loop-p-init

@@ -1,13 +1,9 @@
 -- `view::ends::past_bracket` meets its contract.
 -- Assumes nothing.
-use Rattle.view.proofs.Places.{closing_out}
-use Rattle.view.proofs.Closing.{closing_ahead, bracket_string, bracket_none, bracket_last, bracket_more}
 use Rattle.view.specs.Ends.{closing_of}
-use native.Mathlib.Omega.{arith}
 use lib.ListN.{length}
 use Prim.Native.Nat.{◌-◌, ◌+◌, ◌<◌, ◌≤◌}
-use mathlib.Core.Path.{◌≡◌, refl, ◌∙◌}
-use borrow.Author.Rules.{rules}
+use mathlib.Core.Path.{◌≡◌}
 use Rattle.view.proofs.ends.past_bracket.Given as goal
 
 abbrev pub invariant-loop-p : goal.invariant-loop-p

@@ -2,11 +2,7 @@
 -- Assumes nothing.
 use Rattle.view.proofs.Places.{closing_out}
 use Rattle.view.proofs.Closing.{string_quote, string_byte, string_letter}
-use Rattle.view.specs.Ends.{closing_of}
-use lib.ListN.{length}
-use Prim.Native.Nat.{◌-◌}
-use mathlib.Core.Path.{◌≡◌, refl, ◌∙◌}
-use borrow.Author.Rules.{rules}
+use mathlib.Core.Path.{refl, ◌∙◌}
 use Rattle.view.proofs.ends.past_string.Goals as goal
 
 pub loop-p-init : goal.loop-p-init

@@ -1,12 +1,9 @@
 -- `view::ends::past_string` meets its contract.
 -- Assumes nothing.
-use Rattle.view.proofs.Places.{closing_out}
-use Rattle.view.proofs.Closing.{string_quote, string_byte, string_letter}
 use Rattle.view.specs.Ends.{closing_of}
 use lib.ListN.{length}
 use Prim.Native.Nat.{◌-◌}
-use mathlib.Core.Path.{◌≡◌, refl, ◌∙◌}
-use borrow.Author.Rules.{rules}
+use mathlib.Core.Path.{◌≡◌}
 use Rattle.view.proofs.ends.past_string.Given as goal
 
 abbrev pub invariant-loop-p : goal.invariant-loop-p

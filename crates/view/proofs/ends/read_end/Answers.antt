@@ -4,7 +4,6 @@ use Rattle.view.proofs.Places.{in_text}
 use Rattle.view.proofs.Closing.{end_string, end_bracket, end_other, bracket_in_text}
 use native.Mathlib.Omega.{arith}
 use mathlib.Core.Path.{sym, ◌∙◌}
-use borrow.Author.Rules.{rules}
 use Rattle.view.proofs.ends.read_end.Goals as goal
 
 pub overflow_add-at : goal.overflow_add-at

@@ -3,7 +3,6 @@
 use Prim.Native.Nat.{◌<◌}
 use native.Mathlib.Omega.{arith}
 use Rattle.view.proofs.Known.{known_literal}
-use borrow.Author.Rules.{rules}
 use Rattle.view.proofs.literals.literal.Goals as goal
 
 pub returns-then-byte_at-eq34 : goal.returns-then-byte_at-eq34

@@ -2,7 +2,6 @@
 -- Assumes nothing.
 use native.Mathlib.Omega.{arith}
 use Rattle.view.proofs.Known.{literal_length, literal_copy}
-use borrow.Author.Rules.{rules}
 use Rattle.view.proofs.literals.string_copy.Goals as goal
 
 pub overflow_add-start : goal.overflow_add-start

@@ -2,7 +2,6 @@
 -- Assumes nothing.
 use native.Mathlib.Omega.{arith}
 use Rattle.view.proofs.Known.{literal_is}
-use borrow.Author.Rules.{rules}
 use Rattle.view.proofs.literals.string_is.Goals as goal
 
 pub overflow_add-start : goal.overflow_add-start

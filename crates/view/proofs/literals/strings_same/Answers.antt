@@ -2,7 +2,6 @@
 -- Assumes nothing.
 use native.Mathlib.Omega.{arith}
 use Rattle.view.proofs.Known.{literal_same}
-use borrow.Author.Rules.{rules}
 use Rattle.view.proofs.literals.strings_same.Goals as goal
 
 pub overflow_add-start : goal.overflow_add-start

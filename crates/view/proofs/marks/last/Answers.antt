@@ -1,7 +1,6 @@
 -- `view::marks::last` meets its contract.
 -- Assumes nothing.
 use Rattle.view.proofs.Marking.{last_none, last_one, last_two}
-use borrow.Author.Rules.{rules}
 use native.Mathlib.Omega.{arith}
 use Rattle.view.proofs.marks.last.Goals as goal
 

@@ -1,7 +1,6 @@
 -- `view::marks::mark` meets its contract.
 -- Assumes nothing.
 use native.Mathlib.Omega.{arith}
-use borrow.Author.Rules.{rules}
 use Rattle.view.proofs.Marking.{literal_mark}
 use Rattle.view.proofs.marks.mark.Goals as goal
 

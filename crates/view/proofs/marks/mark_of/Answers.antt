@@ -1,11 +1,7 @@
 -- `view::marks::mark_of` meets its contract: the mark of what is left, from the number so far on, is the whole mark.
 -- Assumes nothing.
-use mathlib.Core.Path.{◌≡◌, refl, ◌∙◌}
-use Prim.Native.Nat.{◌-◌, ◌≤◌}
-use lib.ListN.{length, drop}
-use Rattle.view.specs.Marks.{marking, mark_from, mark_of}
+use mathlib.Core.Path.{refl, ◌∙◌}
 use Rattle.view.proofs.Marking.{mark_three}
-use borrow.Author.Rules.{rules}
 use native.Mathlib.Omega.{arith}
 use Rattle.view.proofs.marks.mark_of.Goals as goal
 

@@ -1,12 +1,9 @@
 -- `view::marks::mark_of` meets its contract: the mark of what is left, from the number so far on, is the whole mark.
 -- Assumes nothing.
-use mathlib.Core.Path.{◌≡◌, refl, ◌∙◌}
+use mathlib.Core.Path.{◌≡◌}
 use Prim.Native.Nat.{◌-◌, ◌≤◌}
 use lib.ListN.{length, drop}
 use Rattle.view.specs.Marks.{marking, mark_from, mark_of}
-use Rattle.view.proofs.Marking.{mark_three}
-use borrow.Author.Rules.{rules}
-use native.Mathlib.Omega.{arith}
 use Rattle.view.proofs.marks.mark_of.Given as goal
 
 abbrev pub invariant-loop-i : goal.invariant-loop-i

@@ -3,7 +3,6 @@
 use mathlib.Core.Path.{refl}
 use Rattle.view.specs.Marks.{mark_step}
 use Rattle.view.proofs.Marking.{step_fits}
-use borrow.Author.Rules.{rules}
 use native.Mathlib.Omega.{arith}
 use Rattle.view.proofs.marks.more.Goals as goal
 

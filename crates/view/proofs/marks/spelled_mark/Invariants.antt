@@ -1,15 +1,9 @@
 -- `view::marks::spelled_mark` meets its contract: the mark of what is left, from the number so far on, is the whole mark.
 -- Assumes nothing.
-use mathlib.Core.Path.{◌≡◌, ap}
-use mathlib.Core.List.{List}
-use Prim.Native.Nat.{ℕ}
+use mathlib.Core.Path.{◌≡◌}
 use lib.ListN.{length}
 use Rattle.view.specs.Strings.{string_at, left_of, Within}
 use Rattle.view.specs.Marks.{mark_from, mark_of, Held}
-use Rattle.view.proofs.Marking.{held_none, mark_end, mark_turn}
-use Rattle.view.proofs.Undone.{read_end, read_byte, read_within}
-use borrow.Author.Rules.{rules}
-use native.Mathlib.Omega.{arith}
 use Rattle.view.proofs.marks.spelled_mark.Given as goal
 
 abbrev pub invariant-loop-b : goal.invariant-loop-b

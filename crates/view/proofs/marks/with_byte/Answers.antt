@@ -1,7 +1,6 @@
 -- `view::marks::with_byte` meets its contract.
 -- Assumes nothing.
 use Rattle.view.proofs.Marking.{held_first, held_second, held_third}
-use borrow.Author.Rules.{rules}
 use native.Mathlib.Omega.{arith}
 use Rattle.view.proofs.marks.with_byte.Goals as goal
 

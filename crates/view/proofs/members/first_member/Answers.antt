@@ -1,7 +1,6 @@
 -- `view::members::first_member` meets its contract.
 -- Assumes nothing.
 use native.Mathlib.Omega.{arith}
-use borrow.Author.Rules.{rules}
 use Rattle.view.proofs.Places.{in_text, key_first, key_none}
 use Rattle.view.proofs.members.first_member.Goals as goal
 

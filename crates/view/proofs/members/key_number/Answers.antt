@@ -7,7 +7,6 @@ use native.Mathlib.Omega.{arith}
 use Rattle.view.specs.Members.{key_number}
 use Rattle.view.proofs.Known.{literal_lent}
 use Rattle.view.proofs.KeyNumber.{long_none, copied}
-use borrow.Author.Rules.{rules}
 use Rattle.view.proofs.members.key_number.Goals as goal
 
 pub overflow_add-start : goal.overflow_add-start

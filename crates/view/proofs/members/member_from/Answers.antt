@@ -2,7 +2,6 @@
 -- Assumes nothing.
 use mathlib.Core.Path.{sym, ◌∙◌}
 use native.Mathlib.Omega.{arith}
-use borrow.Author.Rules.{rules}
 use Rattle.view.proofs.Places.{in_text, no_key, no_colon, no_member, is_member_lem}
 use Rattle.view.proofs.members.member_from.Goals as goal
 

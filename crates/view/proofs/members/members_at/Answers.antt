@@ -2,11 +2,8 @@
 -- Assumes nothing.
 use mathlib.Core.Path.{refl}
 use native.Mathlib.Omega.{arith}
-use borrow.Author.Rules.{rules}
-use lib.ListN.{length}
 use Rattle.view.specs.declared.space.Spot.TheVariants.{At}
-use Rattle.view.specs.Members.{keys_at}
-use Rattle.view.proofs.OnePass.{Passing, key_of, pass_start, pass_turn, pass_less, pass_end, collected, number_few}
+use Rattle.view.proofs.OnePass.{pass_start, pass_turn, pass_less, pass_end, collected, number_few}
 use Rattle.view.proofs.members.members_at.Goals as goal
 
 pub loop-entry-init : goal.loop-entry-init

@@ -1,7 +1,6 @@
 -- `view::members::next_member` meets its contract.
 -- Assumes nothing.
 use native.Mathlib.Omega.{arith}
-use borrow.Author.Rules.{rules}
 use Rattle.view.proofs.Places.{in_text, key_next, key_last}
 use Rattle.view.proofs.members.next_member.Goals as goal
 

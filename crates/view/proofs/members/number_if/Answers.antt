@@ -1,7 +1,6 @@
 -- `view::members::number_if` meets its contract.
 -- Assumes nothing.
 use mathlib.Core.Path.{sym, ◌∙◌}
-use borrow.Author.Rules.{rules}
 use Rattle.view.proofs.members.number_if.Goals as goal
 
 pub returns-then-same : goal.returns-then-same

@@ -1,7 +1,6 @@
 -- `view::members::number_of` meets its contract: by the first byte.
 -- Assumes nothing.
 use mathlib.Core.Path.{sym, ◌∙◌}
-use borrow.Author.Rules.{rules}
 use Rattle.view.proofs.KeyNumber.{starts_t, starts_n, starts_s, starts_a, starts_f, starts_d, starts_i, starts_v, starts_l, starts_p, starts_none}
 use Rattle.view.proofs.members.number_of.Goals as goal
 

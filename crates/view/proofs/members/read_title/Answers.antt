@@ -1,7 +1,6 @@
 -- `view::members::read_title` meets its contract.
 -- Assumes nothing.
 use Rattle.view.proofs.Titled.{is_first_lem, is_second, is_other}
-use borrow.Author.Rules.{rules}
 use Rattle.view.proofs.members.read_title.Goals as goal
 
 pub returns-then-read_is : goal.returns-then-read_is

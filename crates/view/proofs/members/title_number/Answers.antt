@@ -6,7 +6,6 @@ use Prim.Native.Nat.{ℕ}
 use native.Mathlib.Omega.{arith}
 use Rattle.view.specs.Members.{title_number}
 use Rattle.view.proofs.Known.{literal_lent}
-use borrow.Author.Rules.{rules}
 use Rattle.view.proofs.members.title_number.Goals as goal
 
 pub overflow_add-start : goal.overflow_add-start

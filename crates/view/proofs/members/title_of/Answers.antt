@@ -2,7 +2,6 @@
 -- Assumes nothing.
 use mathlib.Core.Path.{sym, ◌∙◌}
 use Rattle.view.proofs.Titled.{title_n, title_a, title_none}
-use borrow.Author.Rules.{rules}
 use Rattle.view.proofs.members.title_of.Goals as goal
 
 pub returns-then-b-eq110 : goal.returns-then-b-eq110

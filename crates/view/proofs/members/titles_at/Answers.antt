@@ -1,10 +1,7 @@
 -- `view::members::titles_at` meets its contract: what will be found is the answer.
 -- Assumes nothing.
-use lib.ListN.{length}
-use Rattle.view.specs.Members.{keys_at}
-use Rattle.view.proofs.OnePass.{key_of, pass_less}
-use Rattle.view.proofs.Titled.{Titling, titling_start, titling_turn, titling_end}
-use borrow.Author.Rules.{rules}
+use Rattle.view.proofs.OnePass.{pass_less}
+use Rattle.view.proofs.Titled.{titling_start, titling_turn, titling_end}
 use Rattle.view.proofs.members.titles_at.Goals as goal
 
 pub loop-entry-init : goal.loop-entry-init

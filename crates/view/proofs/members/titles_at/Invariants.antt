@@ -2,9 +2,8 @@
 -- Assumes nothing.
 use lib.ListN.{length}
 use Rattle.view.specs.Members.{keys_at}
-use Rattle.view.proofs.OnePass.{key_of, pass_less}
-use Rattle.view.proofs.Titled.{Titling, titling_start, titling_turn, titling_end}
-use borrow.Author.Rules.{rules}
+use Rattle.view.proofs.OnePass.{key_of}
+use Rattle.view.proofs.Titled.{Titling}
 use Rattle.view.proofs.members.titles_at.Given as goal
 
 abbrev pub invariant-loop-entry : goal.invariant-loop-entry

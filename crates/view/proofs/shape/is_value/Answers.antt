@@ -1,7 +1,6 @@
 -- `view::shape::is_value` meets its contract: in each arm the shape is known.
 -- Assumes nothing.
 use mathlib.Core.Path.{sym, ap}
-use borrow.Author.Rules.{rules}
 use Rattle.view.specs.Values.{is_value}
 use Rattle.view.proofs.shape.is_value.Goals as goal
 

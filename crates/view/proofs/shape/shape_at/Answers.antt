@@ -1,6 +1,5 @@
 -- `view::shape::shape_at` meets its contract.
 -- Assumes nothing.
-use borrow.Author.Rules.{rules}
 use mathlib.Core.Path.{ap, ◌∙◌}
 use Rattle.view.specs.Values.{shape_of}
 use Rattle.view.proofs.shape.shape_at.Goals as goal

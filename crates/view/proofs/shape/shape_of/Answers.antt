@@ -1,7 +1,6 @@
 -- `view::shape::shape_of` meets its contract: each test is the definition's.
 -- Assumes nothing.
 use mathlib.Core.Path.{sym, ◌∙◌}
-use borrow.Author.Rules.{rules}
 use borrow.Author.Tests.{eq-eqb, ne_eqb}
 use Rattle.view.specs.Values.{shape_of}
 use Rattle.view.proofs.shape.shape_of.Goals as goal

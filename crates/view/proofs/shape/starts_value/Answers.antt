@@ -1,7 +1,6 @@
 -- `view::shape::starts_value` meets its contract.
 -- Assumes nothing.
 use mathlib.Core.Path.{ap, ◌∙◌}
-use borrow.Author.Rules.{rules}
 use Rattle.view.specs.Values.{is_value}
 use Rattle.view.proofs.shape.starts_value.Goals as goal
 

@@ -1,20 +1,15 @@
 -- `view::sizes::size_literal` meets its contract.
 -- Assumes nothing.
 use Rattle.view.proofs.Digits.{digit_low, size_none, size_some, size_out, size_digit, size_big, size_stop, size_bad}
-use Rattle.view.specs.Size.{size_from, size_of}
-use borrow.Author.Tests.{not-true, not-false}
-use borrow.Author.Rules.{rules}
-use lib.ListN.{length, drop}
 use native.Mathlib.Omega.{arith}
-use Prim.Native.Nat.{◌-◌, ◌<◌}
-use mathlib.Core.Path.{◌≡◌, sym, ◌∙◌}
+use mathlib.Core.Path.{sym, ◌∙◌}
 use Rattle.view.proofs.sizes.size_literal.Goals as goal
 
 pub returns-then-not-is_digit : goal.returns-then-not-is_digit
-returns-then-not-is_digit c = size_none _ _ _ c.byte_at.ensures (sym c.is_digit.ensures ∙ not-true _ c.if-not-is_digit.true-raw)
+returns-then-not-is_digit c = size_none _ _ _ c.byte_at.ensures (sym c.is_digit.ensures ∙ c.if-not-is_digit.true)
 
 pub loop-p-init : goal.loop-p-init
-loop-p-init c = (omega arith, size_some _ _ _ c.byte_at.ensures (sym c.is_digit.ensures ∙ not-false _ c.if-not-is_digit.false-raw))
+loop-p-init c = (omega arith, size_some _ _ _ c.byte_at.ensures (sym c.is_digit.ensures ∙ c.if-not-is_digit.false))
 
 pub overflow_sub-d : goal.overflow_sub-d
 overflow_sub-d c = let h = digit_low _ _ c.wide-d.ensures.0 (sym c.is_digit-in-loop-p.ensures ∙ c.if-is_digit.true) in omega arith

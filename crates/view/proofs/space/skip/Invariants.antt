@@ -1,11 +1,9 @@
 -- `view::space::skip` meets its contract.
 -- Assumes nothing.
-use Rattle.view.proofs.Places.{skip_step, skip_stop, skip_out}
 use Rattle.view.specs.Values.{skip_of}
-use borrow.Author.Rules.{rules}
 use lib.ListN.{length}
 use Prim.Native.Nat.{◌-◌}
-use mathlib.Core.Path.{◌≡◌, refl, sym, ◌∙◌}
+use mathlib.Core.Path.{◌≡◌}
 use Rattle.view.proofs.space.skip.Given as goal
 
 abbrev pub invariant-loop-p : goal.invariant-loop-p

@@ -1,6 +1,5 @@
 -- `view::space::value_start` meets its contract.
 -- Assumes nothing.
-use borrow.Author.Rules.{rules}
 use Rattle.view.proofs.space.value_start.Goals as goal
 
 pub returns : goal.returns

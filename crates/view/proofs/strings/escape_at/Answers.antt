@@ -2,7 +2,6 @@
 -- Assumes nothing.
 use mathlib.Core.Path.{refl, ◌∙◌}
 use native.Mathlib.Omega.{arith}
-use borrow.Author.Rules.{rules}
 use Rattle.view.proofs.Undone.{part_letter, part_single, part_pair}
 use Rattle.view.proofs.strings.escape_at.Goals as goal
 

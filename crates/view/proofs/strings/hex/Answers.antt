@@ -3,7 +3,6 @@
 use Rattle.view.specs.Strings.{hex_of}
 use borrow.Author.Tests.{lt-ltb, le-ltb, le-leb, lt-leb}
 use native.Mathlib.Omega.{arith}
-use borrow.Author.Rules.{rules}
 use Rattle.view.proofs.strings.hex.Goals as goal
 
 pub returns-then-b-lt48 : goal.returns-then-b-lt48

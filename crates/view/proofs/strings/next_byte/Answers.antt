@@ -2,7 +2,6 @@
 -- Assumes nothing.
 use mathlib.Core.Path.{refl, sym, ◌∙◌}
 use native.Mathlib.Omega.{arith}
-use borrow.Author.Rules.{rules}
 use Rattle.view.proofs.Undone.{stop_in, read_stop, read_plain, read_more, read_last, here}
 use Rattle.view.proofs.strings.next_byte.Goals as goal
 

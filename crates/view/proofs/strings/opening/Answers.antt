@@ -1,7 +1,6 @@
 -- `view::strings::opening` meets its contract.
 -- Assumes nothing.
 use native.Mathlib.Omega.{arith}
-use borrow.Author.Rules.{rules}
 use Rattle.view.proofs.Places.{in_text}
 use Rattle.view.proofs.Undone.{opened, unopened}
 use Rattle.view.proofs.strings.opening.Goals as goal

@@ -1,11 +1,8 @@
 -- `view::strings::plain_end` meets its contract: a run of bytes that stand for themselves.
 -- Assumes nothing.
-use mathlib.Core.Path.{sym, ◌∙◌}
 use Prim.Native.Nat.{◌-◌}
 use lib.ListN.{length}
 use Rattle.view.specs.Strings.{Plainly}
-use Rattle.view.proofs.Plain.{run_none, run_letter, run_turn}
-use borrow.Author.Rules.{rules}
 use Rattle.view.proofs.strings.plain_end.Given as goal
 
 abbrev pub invariant-loop-p : goal.invariant-loop-p

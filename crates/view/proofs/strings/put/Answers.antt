@@ -1,7 +1,6 @@
 -- `view::strings::put` meets its contract.
 -- Assumes nothing.
 use mathlib.Core.Path.{sym}
-use borrow.Author.Rules.{rules}
 use lib.Seq.{set_out}
 use Rattle.view.proofs.strings.put.Goals as goal
 

@@ -1,14 +1,10 @@
 -- `view::strings::read_copy` meets its contract: what is left, stored, gives the whole store.
 -- Assumes nothing.
-use mathlib.Core.Path.{◌≡◌, refl, ap, ◌∙◌}
-use mathlib.Core.List.{List}
-use Prim.Native.Nat.{ℕ, ◌+◌}
-use native.Mathlib.Omega.{arith}
-use borrow.Author.Rules.{rules}
-use lib.ListN.{length, length-set}
+use mathlib.Core.Path.{◌≡◌}
+use Prim.Native.Nat.{◌+◌}
+use lib.ListN.{length}
 use Rattle.ground.specs.Bytes.{store}
 use Rattle.view.specs.Strings.{string_at, left_of, Within}
-use Rattle.view.proofs.Undone.{read_end, read_byte, read_within, copy_end, copy_turn, string_short}
 use Rattle.view.proofs.strings.read_copy.Given as goal
 
 abbrev pub invariant-loop-b : goal.invariant-loop-b

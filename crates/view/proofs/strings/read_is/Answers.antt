@@ -1,13 +1,12 @@
 -- `view::strings::read_is` meets its contract: what is left of the string against what is left of the word.
 -- Assumes nothing.
-use mathlib.Core.Path.{◌≡◌, ap}
+use mathlib.Core.Path.{ap}
 use mathlib.Core.List.{List}
-use Prim.Native.Nat.{ℕ, ◌+◌}
+use Prim.Native.Nat.{ℕ}
 use native.Mathlib.Omega.{arith}
-use borrow.Author.Rules.{rules}
-use lib.ListN.{length, drop}
+use lib.ListN.{length}
 use Rattle.ground.specs.Bytes.{same}
-use Rattle.view.specs.Strings.{string_at, left_of, Within}
+use Rattle.view.specs.Strings.{string_at}
 use Rattle.view.proofs.Undone.{read_end, read_byte, read_within, lengths_differ, lengths_agree, word_end, word_differ, word_turn}
 use Rattle.view.proofs.strings.read_is.Goals as goal
 

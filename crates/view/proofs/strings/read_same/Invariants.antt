@@ -1,15 +1,9 @@
 -- `view::strings::read_same` meets its contract: what is left of the one against what is left of the other.
 -- Assumes nothing.
-use mathlib.Core.Path.{◌≡◌, ap, ap₂, ◌∙◌}
-use mathlib.Core.List.{List}
-use Prim.Native.Nat.{ℕ}
-use native.Mathlib.Omega.{arith}
-use borrow.Author.Rules.{rules}
-use lib.Dec.{eqb}
+use mathlib.Core.Path.{◌≡◌}
 use lib.ListN.{length}
 use Rattle.ground.specs.Bytes.{same}
 use Rattle.view.specs.Strings.{string_at, left_of, Within}
-use Rattle.view.proofs.Undone.{read_end, read_byte, read_within, lengths_differ, lengths_agree, both_end, other_ends, bytes_differ, bytes_turn}
 use Rattle.view.proofs.strings.read_same.Given as goal
 
 abbrev pub invariant-loop-a : goal.invariant-loop-a

@@ -1,11 +1,8 @@
 -- `view::strings::spelled_length` meets its contract: as many bytes are read as are not left.
 -- Assumes nothing.
-use mathlib.Core.Path.{◌≡◌, ap}
-use Prim.Native.Nat.{◌+◌}
+use mathlib.Core.Path.{ap}
 use native.Mathlib.Omega.{arith}
-use borrow.Author.Rules.{rules}
 use lib.ListN.{length}
-use Rattle.view.specs.Strings.{string_at, left_of, Within}
 use Rattle.view.proofs.Undone.{read_end, read_byte, read_within, string_short}
 use Rattle.view.proofs.strings.spelled_length.Goals as goal
 

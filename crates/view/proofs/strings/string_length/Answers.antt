@@ -4,7 +4,6 @@ use mathlib.Core.Path.{sym, ◌∙◌}
 use native.Mathlib.Omega.{arith}
 use Rattle.view.proofs.Places.{in_text}
 use Rattle.view.proofs.Plain.{run_length}
-use borrow.Author.Rules.{rules}
 use Rattle.view.proofs.strings.string_length.Goals as goal
 
 pub overflow_add-start : goal.overflow_add-start

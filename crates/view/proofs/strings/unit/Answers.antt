@@ -2,7 +2,6 @@
 -- Assumes nothing.
 use Rattle.view.specs.Strings.{unit_at}
 use native.Mathlib.Omega.{arith}
-use borrow.Author.Rules.{rules}
 use Rattle.view.proofs.strings.unit.Goals as goal
 
 pub returns : goal.returns

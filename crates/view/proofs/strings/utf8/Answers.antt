@@ -4,7 +4,6 @@ use Rattle.view.specs.Strings.{utf8_of}
 use borrow.Author.Tests.{lt-ltb, le-ltb}
 use native.Mathlib.Omega.{arith}
 use mathlib.Core.Path.{refl}
-use borrow.Author.Rules.{rules}
 use Rattle.view.proofs.strings.utf8.Goals as goal
 
 pub returns-then-code-lt128 : goal.returns-then-code-lt128

@@ -1,13 +1,9 @@
 -- `view::table::find_ends` meets its contract.
 -- Assumes nothing.
-use mathlib.Core.Path.{◌≡◌, refl}
+use mathlib.Core.Path.{◌≡◌}
 use Prim.Native.Nat.{◌-◌}
-use native.Mathlib.Omega.{arith}
-use borrow.Author.Rules.{rules}
 use lib.ListN.{length}
 use Rattle.view.specs.Known.{Known, Stack}
-use Rattle.view.proofs.Closing.{closing_ahead}
-use Rattle.view.proofs.Filling.{stack_start, stack_string, stack_below}
 use Rattle.view.proofs.table.find_ends.Given as goal
 
 abbrev pub invariant-loop-p : goal.invariant-loop-p

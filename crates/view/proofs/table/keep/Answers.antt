@@ -3,7 +3,6 @@
 use mathlib.Core.Path.{sym}
 use native.Mathlib.Omega.{arith}
 use lib.Seq.{set_out}
-use borrow.Author.Rules.{rules}
 use Rattle.view.proofs.table.keep.Goals as goal
 
 pub returns-else-depth-lt-NESTING : goal.returns-else-depth-lt-NESTING

@@ -2,7 +2,6 @@
 -- Assumes nothing.
 use mathlib.Core.Path.{sym}
 use lib.Seq.{set_out}
-use borrow.Author.Rules.{rules}
 use Rattle.view.proofs.table.note.Goals as goal
 
 pub returns-else-at-ends : goal.returns-else-at-ends

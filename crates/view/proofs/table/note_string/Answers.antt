@@ -1,7 +1,6 @@
 -- `view::table::note_string` meets its contract.
 -- Assumes nothing.
 use Rattle.view.proofs.Filling.{plain_closing, plain_noted}
-use borrow.Author.Rules.{rules}
 use Rattle.view.proofs.table.note_string.Goals as goal
 
 pub returns-then-byte_at-eq34 : goal.returns-then-byte_at-eq34

@@ -1,9 +1,8 @@
 -- `walk::frames::header` meets its contract: a step is taken, and the count says whether there is a block.
 -- Assumes nothing.
-use mathlib.Core.Path.{refl, sym, ap, ◌∙◌}
+use mathlib.Core.Path.{refl, sym, ◌∙◌}
 use native.Mathlib.Omega.{arith}
 use Rattle.walk.proofs.TurnLaws.{number_listed, number_bounded, number_behind, header_none, header_end, header_block, header_cut, header_wrong}
-use borrow.Author.Rules.{rules}
 use Rattle.walk.proofs.frames.header.Goals as goal
 
 pub returns-then-here-eq0 : goal.returns-then-here-eq0

@@ -1,8 +1,7 @@
 -- `walk::frames::is_right` meets its contract.
 -- Assumes nothing.
-use mathlib.Core.Path.{sym, ◌∙◌}
+use mathlib.Core.Path.{◌∙◌}
 use Rattle.walk.proofs.FrameLaws.{right_none, right_size}
-use borrow.Author.Rules.{rules}
 use Rattle.walk.proofs.frames.is_right.Goals as goal
 
 pub returns-then-size-eq0 : goal.returns-then-size-eq0

@@ -2,7 +2,6 @@
 -- Assumes nothing.
 use mathlib.Core.Path.{sym, ◌∙◌}
 use Rattle.walk.proofs.FrameLaws.{key_map, key_none}
-use borrow.Author.Rules.{rules}
 use Rattle.walk.proofs.frames.key.Goals as goal
 
 pub returns-then-is_map : goal.returns-then-is_map

@@ -3,7 +3,6 @@
 use mathlib.Core.Path.{refl}
 use Rattle.walk.specs.Steps.{pushed}
 use Rattle.walk.proofs.FrameLaws.{second_room, third_room}
-use borrow.Author.Rules.{rules}
 use Rattle.walk.proofs.frames.push.Goals as goal
 
 pub bounds-frames-at-2 : goal.bounds-frames-at-2

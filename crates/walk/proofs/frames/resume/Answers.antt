@@ -1,6 +1,5 @@
 -- `walk::frames::resume` meets its contract: the last frame is of parts, of a block that has ended, or of one with an entry left.
 -- Assumes nothing.
-use borrow.Author.Rules.{rules}
 use Rattle.walk.proofs.frames.resume.Goals as goal
 
 pub returns-then-frames-top-eq0 : goal.returns-then-frames-top-eq0

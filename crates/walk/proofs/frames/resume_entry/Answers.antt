@@ -1,9 +1,8 @@
 -- `walk::frames::resume_entry` meets its contract: one entry less is left, and its datum is to be visited behind the key.
 -- Assumes nothing.
-use mathlib.Core.Path.{refl, sym, ap, ◌∙◌}
+use mathlib.Core.Path.{refl, ap}
 use Rattle.walk.specs.declared.states.Turn.TheVariants.{On}
 use Rattle.walk.proofs.TurnLaws.{entry_to, entry_bad}
-use borrow.Author.Rules.{rules}
 use Rattle.walk.proofs.frames.resume_entry.Goals as goal
 
 pub returns-in-To : goal.returns-in-To

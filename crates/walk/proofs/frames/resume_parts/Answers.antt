@@ -3,7 +3,6 @@
 use mathlib.Core.Path.{refl, ap}
 use Rattle.walk.specs.declared.states.Turn.TheVariants.{On}
 use Rattle.walk.proofs.TurnLaws.{parts_end, parts_next}
-use borrow.Author.Rules.{rules}
 use Rattle.walk.proofs.frames.resume_parts.Goals as goal
 
 pub returns-then-n-part : goal.returns-then-n-part

@@ -1,8 +1,6 @@
 -- `walk::leaves::choice` meets its contract.
 -- Assumes nothing.
 use Rattle.walk.proofs.LeafLaws.{choice_negative, choice_part, choice_cut, choice_wrong}
-use borrow.Author.Rules.{rules}
-use borrow.Author.Rules.{rules}
 use Rattle.walk.proofs.leaves.choice.Goals as goal
 
 pub returns-then-is_negative : goal.returns-then-is_negative

@@ -1,8 +1,6 @@
 -- `walk::leaves::counted` meets its contract: so many bytes from behind the length on are those behind the offset.
 -- Assumes nothing.
 use Rattle.walk.proofs.LeafLaws.{long_within, counted_negative, counted_pass, counted_cut, counted_wrong}
-use borrow.Author.Rules.{rules}
-use borrow.Author.Rules.{rules}
 use Rattle.walk.proofs.leaves.counted.Goals as goal
 
 pub returns-then-is_negative : goal.returns-then-is_negative

@@ -1,8 +1,6 @@
 -- `walk::leaves::flag` meets its contract.
 -- Assumes nothing.
 use Rattle.walk.proofs.LeafLaws.{flag_cut, flag_bad, flag_to}
-use borrow.Author.Rules.{rules}
-use borrow.Author.Rules.{rules}
 use Rattle.walk.proofs.leaves.flag.Goals as goal
 
 pub returns-then-bytes-at : goal.returns-then-bytes-at

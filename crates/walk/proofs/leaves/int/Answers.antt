@@ -1,8 +1,6 @@
 -- `walk::leaves::int` meets its contract.
 -- Assumes nothing.
 use Rattle.walk.proofs.LeafLaws.{int_to, int_cut, int_wrong}
-use borrow.Author.Rules.{rules}
-use borrow.Author.Rules.{rules}
 use Rattle.walk.proofs.leaves.int.Goals as goal
 
 pub returns-in-Is : goal.returns-in-Is

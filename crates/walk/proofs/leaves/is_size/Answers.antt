@@ -1,8 +1,6 @@
 -- `walk::leaves::is_size` meets its contract.
 -- Assumes nothing.
 use Rattle.walk.proofs.LeafLaws.{size_negative, size_behind, size_asked, size_cut, size_wrong}
-use borrow.Author.Rules.{rules}
-use borrow.Author.Rules.{rules}
 use Rattle.walk.proofs.leaves.is_size.Goals as goal
 
 pub returns-then-is_negative : goal.returns-then-is_negative

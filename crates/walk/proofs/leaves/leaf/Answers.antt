@@ -1,8 +1,10 @@
 -- `walk::leaves::leaf` meets its contract: each arm reads as its kind does.
 -- Assumes nothing.
-use Rattle.walk.proofs.LeafLaws.{leaf_boolean, leaf_int, leaf_long, leaf_float, leaf_double, leaf_bytes, leaf_string, leaf_fixed, leaf_none}
+use Rattle.walk.proofs.LeafLaws.{leaf_boolean, leaf_int, leaf_long, leaf_float, leaf_double, leaf_bytes, leaf_string, leaf_fixed, leaf_none, others}
 use borrow.Author.Rules.{rules}
-use borrow.Author.Rules.{rules}
+use borrow.Enum.Refused.{opened}
+use denote.Enum.Declared.{tag_of}
+use Rattle.row.specs.contracts.kind.Kind.{the_type}
 use Rattle.walk.proofs.leaves.leaf.Goals as goal
 
 pub returns-in-Boolean : goal.returns-in-Boolean
@@ -30,4 +32,4 @@ pub returns-in-Fixed : goal.returns-in-Fixed
 returns-in-Fixed c = leaf_fixed _ _ _ c.in-Fixed.is c.pass-in-Fixed.ensures
 
 pub returns-in_default : goal.returns-in_default
-returns-in_default c = leaf_none _ _ c.requires _ _ c.in_default.keys9
+returns-in_default c = leaf_none _ _ c.requires _ _ (opened {ks = others} {x = tag_of the_type c.args.kind} (search rules))

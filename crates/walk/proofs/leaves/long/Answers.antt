@@ -1,8 +1,6 @@
 -- `walk::leaves::long` meets its contract.
 -- Assumes nothing.
 use Rattle.walk.proofs.LeafLaws.{long_to, long_cut, long_wrong}
-use borrow.Author.Rules.{rules}
-use borrow.Author.Rules.{rules}
 use Rattle.walk.proofs.leaves.long.Goals as goal
 
 pub returns-in-Is : goal.returns-in-Is

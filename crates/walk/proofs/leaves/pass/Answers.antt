@@ -1,8 +1,6 @@
 -- `walk::leaves::pass` meets its contract.
 -- Assumes nothing.
 use Rattle.walk.proofs.LeafLaws.{pass_cut, pass_to}
-use borrow.Author.Rules.{rules}
-use borrow.Author.Rules.{rules}
 use Rattle.walk.proofs.leaves.pass.Goals as goal
 
 pub returns-then-room-n : goal.returns-then-room-n

@@ -3,8 +3,6 @@
 use Prim.Native.Nat.{ℕ, ◌+◌}
 use mathlib.Core.Path.{ap}
 use Rattle.walk.proofs.RowLaws.{part_depth}
-use borrow.Author.Rules.{rules}
-use borrow.Author.Rules.{rules}
 use Rattle.walk.proofs.rows.first_part.Goals as goal
 
 pub returns : goal.returns

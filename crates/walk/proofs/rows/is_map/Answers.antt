@@ -1,8 +1,6 @@
 -- `walk::rows::is_map` meets its contract.
 -- Assumes nothing.
 use Rattle.walk.proofs.RowLaws.{map_here, map_none}
-use borrow.Author.Rules.{rules}
-use borrow.Author.Rules.{rules}
 use Rattle.walk.proofs.rows.is_map.Goals as goal
 
 pub returns-then-i-n : goal.returns-then-i-n

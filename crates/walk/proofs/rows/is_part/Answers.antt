@@ -2,8 +2,6 @@
 -- Assumes nothing.
 use mathlib.Core.Path.{◌∙◌, sym}
 use Rattle.walk.specs.Parts.{is_part}
-use borrow.Author.Rules.{rules}
-use borrow.Author.Rules.{rules}
 use Rattle.walk.proofs.rows.is_part.Goals as goal
 
 pub returns-then-is_kind : goal.returns-then-is_kind

@@ -1,13 +1,9 @@
 -- `walk::rows::next_part` meets its contract: the parts among the rows that are left are the parts.
 -- Assumes nothing.
-use Prim.Native.Nat.{◌-◌}
-use mathlib.Core.Path.{◌≡◌, refl}
-use mathlib.Core.Logic.{⊎_elim}
+use mathlib.Core.Path.{refl}
 use Rattle.walk.proofs.RowLaws.{part_end, part_stop, part_here, part_alias, part_deeper}
-use Rattle.walk.specs.Parts.{parts_at}
-use Rattle.walk.specs.Steps.{type_at}
-use borrow.Author.Rules.{rules}
 use Rattle.walk.proofs.rows.next_part.Goals as goal
+use Rattle.walk.proofs.rows.next_part.Goals.{then-d-depth-2+else-is_part, else-d-depth-2}
 
 pub loop-i-init : goal.loop-i-init
 loop-i-init c = refl
@@ -20,10 +16,10 @@ returns-then-is_part c = part_here _ _ _ _ _ c.loop-i.invariant c.loop-i-test.tr
 
 pub loop-i-preserved : goal.loop-i-preserved
 loop-i-preserved c =
-    ⊎_elim
-    (λ w. part_alias _ _ _ _ _ c.loop-i.invariant c.loop-i-test.true c.depth_at-d.ensures.0 w.0.taken (w.2.ensures _ w.1.ensures) w.3.left)
-    (λ w. part_deeper _ _ _ _ _ c.loop-i.invariant c.loop-i-test.true c.depth_at-d.ensures.0 c.if-d-depth.false w.left)
-    c.if-d-depth-2.branch
+    elim c.if-d-depth-2.branch [
+      | then-d-depth-2+else-is_part w ↦ part_alias _ _ _ _ _ c.loop-i.invariant c.loop-i-test.true c.depth_at-d.ensures.0 w.if-d-depth-2.true (w.is_part.ensures _ w.kind_number.ensures) w.if-is_part.false
+      | else-d-depth-2 w ↦ part_deeper _ _ _ _ _ c.loop-i.invariant c.loop-i-test.true c.depth_at-d.ensures.0 c.if-d-depth.false w.if-d-depth-2.false
+    ]
 
 pub returns : goal.returns
 returns c = part_end _ _ _ _ _ c.loop-i.invariant c.loop-i-test.false

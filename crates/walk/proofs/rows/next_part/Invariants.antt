@@ -1,12 +1,9 @@
 -- `walk::rows::next_part` meets its contract: the parts among the rows that are left are the parts.
 -- Assumes nothing.
 use Prim.Native.Nat.{◌-◌}
-use mathlib.Core.Path.{◌≡◌, refl}
-use mathlib.Core.Logic.{⊎_elim}
-use Rattle.walk.proofs.RowLaws.{part_end, part_stop, part_here, part_alias, part_deeper}
+use mathlib.Core.Path.{◌≡◌}
 use Rattle.walk.specs.Parts.{parts_at}
 use Rattle.walk.specs.Steps.{type_at}
-use borrow.Author.Rules.{rules}
 use Rattle.walk.proofs.rows.next_part.Given as goal
 
 abbrev pub invariant-loop-i : goal.invariant-loop-i

@@ -1,12 +1,11 @@
 -- `walk::rows::part_number` meets its contract: among the parts that are left it is the part with the number that is left.
 -- Assumes nothing.
 use Prim.Native.Nat.{◌+◌}
-use mathlib.Core.Path.{◌≡◌, refl}
+use mathlib.Core.Path.{◌≡◌}
 use lib.ListN.{length}
-use Rattle.walk.proofs.RowLaws.{Counting, count_start, count_here, count_on, count_end}
+use Rattle.walk.proofs.RowLaws.{Counting}
 use Rattle.row.specs.Memory.{entry_at}
 use Rattle.walk.specs.Steps.{Follows}
-use borrow.Author.Rules.{rules}
 use Rattle.walk.proofs.rows.part_number.Given as goal
 
 abbrev pub invariant-loop-r : goal.invariant-loop-r

@@ -1,8 +1,6 @@
 -- `walk::tables::definition` meets its contract: what the table holds is the definition, and what is noted is the one that was found.
 -- Assumes nothing.
 use Rattle.walk.proofs.TableLaws.{found_below, found_held, found_noted}
-use borrow.Author.Rules.{rules}
-use borrow.Author.Rules.{rules}
 use Rattle.walk.proofs.tables.definition.Goals as goal
 
 pub returns-then-known-ne0 : goal.returns-then-known-ne0

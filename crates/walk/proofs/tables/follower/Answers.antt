@@ -2,8 +2,6 @@
 -- Assumes nothing.
 use Rattle.walk.proofs.RowLaws.{part_depth}
 use Rattle.walk.proofs.TableLaws.{follows_held, follows_noted}
-use borrow.Author.Rules.{rules}
-use borrow.Author.Rules.{rules}
 use Rattle.walk.proofs.tables.follower.Goals as goal
 
 pub returns-then-known-ne0 : goal.returns-then-known-ne0

@@ -3,7 +3,6 @@
 use mathlib.Core.Path.{refl, sym, ap}
 use Rattle.walk.specs.declared.states.Turn.TheVariants.{On}
 use Rattle.walk.proofs.DatumLaws.{union_none, union_to, union_bad}
-use borrow.Author.Rules.{rules}
 use Rattle.walk.proofs.turns.branch.Goals as goal
 
 pub returns-then-n-part : goal.returns-then-n-part

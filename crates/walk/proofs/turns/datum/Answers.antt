@@ -1,10 +1,13 @@
 -- `walk::turns::datum` meets its contract, by the kind of the row.
 -- Assumes nothing.
-use mathlib.Core.Path.{refl, sym, ap, ◌∙◌}
+use mathlib.Core.Path.{sym, ap, ◌∙◌}
 use Rattle.walk.specs.declared.states.Turn.TheVariants.{On}
-use Rattle.walk.proofs.LeafLaws.{plain_kind}
+use Rattle.walk.proofs.LeafLaws.{plain_kind, plains}
 use Rattle.walk.proofs.DatumLaws.{reference_to, field_to, array_blocks, map_blocks}
 use borrow.Author.Rules.{rules}
+use borrow.Enum.Refused.{opened}
+use denote.Enum.Declared.{tag_of}
+use Rattle.row.specs.contracts.kind.Kind.{the_type}
 use Rattle.walk.proofs.turns.datum.Goals as goal
 
 pub record_at-requires : goal.record_at-requires
@@ -38,4 +41,4 @@ pub returns-in-Map : goal.returns-in-Map
 returns-in-Map c = (map_blocks _ _ _ _ _ _ _ c.requires.2 c.kind_at-kind.ensures c.requires.8 c.requires.9 c.requires.5 (c.header-in-Map.ensures _ _ _ c.requires.9) c.in-Map.is, c.requires.3, c.requires.4)
 
 pub returns-in_default : goal.returns-in_default
-returns-in_default c = (c.plain.ensures _ _ _ _ _ c.requires.2 c.kind_at-kind.ensures c.size_at.ensures (plain_kind _ c.in_default.keys8) c.requires.8 c.requires.9, c.requires.3, c.requires.4)
+returns-in_default c = (c.plain.ensures _ _ _ _ _ c.requires.2 c.kind_at-kind.ensures c.size_at.ensures (plain_kind _ (opened {ks = plains} {x = tag_of the_type c.kind_at-kind.result} (search rules))) c.requires.8 c.requires.9, c.requires.3, c.requires.4)

@@ -1,9 +1,8 @@
 -- `walk::turns::plain` meets its contract.
 -- Assumes nothing.
-use mathlib.Core.Path.{refl, sym, ap}
+use mathlib.Core.Path.{refl, ap}
 use Rattle.walk.specs.declared.states.Turn.TheVariants.{On}
 use Rattle.walk.proofs.DatumLaws.{plain_to, plain_bad}
-use borrow.Author.Rules.{rules}
 use Rattle.walk.proofs.turns.plain.Goals as goal
 
 pub returns-in-To : goal.returns-in-To

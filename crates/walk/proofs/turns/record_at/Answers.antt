@@ -3,7 +3,6 @@
 use mathlib.Core.Path.{refl, sym, ap}
 use Rattle.walk.specs.declared.states.Turn.TheVariants.{On}
 use Rattle.walk.proofs.DatumLaws.{record_end, record_next}
-use borrow.Author.Rules.{rules}
 use Rattle.walk.proofs.turns.record_at.Goals as goal
 
 pub returns-then-n-part : goal.returns-then-n-part

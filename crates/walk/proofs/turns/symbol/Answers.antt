@@ -3,7 +3,6 @@
 use mathlib.Core.Path.{refl, sym, ap}
 use Rattle.walk.specs.declared.states.Turn.TheVariants.{On}
 use Rattle.walk.proofs.DatumLaws.{enum_none, enum_to, enum_bad}
-use borrow.Author.Rules.{rules}
 use Rattle.walk.proofs.turns.symbol.Goals as goal
 
 pub returns-then-n-part_number : goal.returns-then-n-part_number

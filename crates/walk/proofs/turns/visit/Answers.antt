@@ -1,10 +1,8 @@
 -- `walk::turns::visit` meets its contract: a step is taken, if one is left.
 -- Assumes nothing.
-use mathlib.Core.Path.{refl, sym, ap}
-use Rattle.walk.specs.declared.states.Turn.TheVariants.{On}
+use mathlib.Core.Path.{refl}
 use native.Mathlib.Omega.{arith}
 use Rattle.walk.proofs.DatumLaws.{step_bounded, step_listed, visit_spent, visit_nothing, visit_datum}
-use borrow.Author.Rules.{rules}
 use Rattle.walk.proofs.turns.visit.Goals as goal
 
 pub returns-then-here-eq0 : goal.returns-then-here-eq0

@@ -2,7 +2,6 @@
 -- Assumes nothing.
 use mathlib.Core.Path.{sym, ap, ◌∙◌}
 use Rattle.answer.specs.Answers.{numbers_of}
-use borrow.Author.Rules.{rules}
 use Rattle.answer.proofs.numbers.Numbers.of.Goals as goal
 
 pub returns-in-Refused : goal.returns-in-Refused

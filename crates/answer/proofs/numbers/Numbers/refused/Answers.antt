@@ -1,6 +1,5 @@
 -- `answer::Numbers::refused` meets its contract.
 -- Assumes nothing.
-use borrow.Author.Rules.{rules}
 use Rattle.answer.proofs.numbers.Numbers.refused.Goals as goal
 
 pub returns : goal.returns

@@ -1,6 +1,5 @@
 -- `answer::Why::number` meets its contract: in each arm the case is known, and its number is that of the definition.
 -- Assumes nothing.
-use borrow.Author.Rules.{rules}
 use mathlib.Core.Path.{sym, ap}
 use Rattle.answer.specs.Numbers.{number_of}
 use Rattle.answer.proofs.refusal.Why.number.Goals as goal

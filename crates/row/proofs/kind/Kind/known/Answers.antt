@@ -82,4 +82,4 @@ unfolding kind_of
 returns-in-49 c = c.in-49.is ∙ sym (ap kind_known c.in-49.is)
 
 pub returns-in_default : goal.returns-in_default
-returns-in_default c = sym (ap kind_number (no_kind _ c.in_default.rest))
+returns-in_default c = sym (ap kind_number (no_kind _ c.in_default.in_default-own.rest))

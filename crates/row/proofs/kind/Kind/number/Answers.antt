@@ -2,7 +2,6 @@
 -- Assumes nothing.
 use mathlib.Core.Path.{sym, ap}
 use Rattle.row.specs.Kinds.{kind_number}
-use borrow.Author.Rules.{rules}
 use Rattle.row.proofs.kind.Kind.number.Goals as goal
 
 pub returns-in-Null : goal.returns-in-Null

@@ -78,4 +78,4 @@ unfolding kind_of
 returns-in-49 c = sym (ap kind_of c.in-49.is)
 
 pub returns-in_default : goal.returns-in_default
-returns-in_default c = sym (no_kind _ c.in_default.rest)
+returns-in_default c = sym (no_kind _ c.in_default.in_default-own.rest)

@@ -1,7 +1,0 @@
-#![tactic(auto)]
-
-use std::io;
-
-fn main(rt: HostRuntime) -> io::Result<()> {
-    replays::run(rt.stdin(), rt.stdout())
-}
