@@ -7,7 +7,7 @@ use borrow.Author.Rules.{rules}
 use Rattle.declare.proofs.input.read_all.Goals as goal
 
 pub loop-to-init : goal.loop-to-init
-loop-to-init c = (refl, search rules)
+loop-to-init g c = (refl, search rules)
 
 pub loop-to-preserved : goal.loop-to-preserved
-loop-to-preserved c = (search rules, search rules)
+loop-to-preserved g c = (search rules, search rules)

@@ -7,7 +7,7 @@ use borrow.Author.Rules.{rules}
 use Rattle.declare.proofs.input.read_all.Given as goal
 
 abbrev pub invariant-loop-to : goal.invariant-loop-to
-invariant-loop-to l = (length l.buf ≡ length l.initial.buf) × (l.to ≤ length l.buf)
+invariant-loop-to g l = (length l.buf ≡ length l.initial.buf) × (l.to ≤ length l.buf)
 
 abbrev pub decreases-loop-to : goal.decreases-loop-to
-decreases-loop-to l = length l.buf - l.to
+decreases-loop-to g l = length l.buf - l.to
