@@ -1,0 +1,2 @@
+-- The one claim over the list of marks.
+pub mod Claim
