@@ -48,7 +48,7 @@ written_at m place offset room = in_room (text_at m place) place offset room
 
 -- ---- what is answered, in 01's numbers: 0 and the text's length, or the refusal's number, place and position
 
--- the contracts read an answer by them, for each of its cases; they tell the answer (laws `IsWritten-one`, `print_one`)
+-- the contracts read an answer by them, for each of its cases; they tell the answer (laws `written_one`, `print_one`)
 abbrev pub numbers_of_written : Written → Numbers
 numbers_of_written (text.Length n) = accepted n 0 0
 numbers_of_written (text.Refused r) = of_refusal r

@@ -131,18 +131,18 @@ module _ (test : ℕ → Bool) where
 
 -- ---- what was entered
 
-module _ {isIn : ℕ → Bool} {slot : ℕ → ℕ} where
+module _ {is_in : ℕ → Bool} {slot : ℕ → ℕ} where
   -- nothing was, whatever the tables hold
-  pub keeps_none : (first next : List ℕ) (n : ℕ) → ((a : ℕ) → a < n → isIn a ≡ false) → Keeps isIn slot first next n
+  pub keeps_none : (first next : List ℕ) (n : ℕ) → ((a : ℕ) → a < n → is_in a ≡ false) → Keeps is_in slot first next n
   keeps_none first next n f = record { keeps = λ a l i t e. never (sym (f a l) ∙ i) }
 
-  module _ {first next : List ℕ} {n : ℕ} (k : Keeps isIn slot first next n) where
+  module _ {first next : List ℕ} {n : ℕ} (k : Keeps is_in slot first next n) where
     -- a number that is none of them
-    pub keeps_past : isIn n ≡ false → Keeps isIn slot first next (n + 1)
+    pub keeps_past : is_in n ≡ false → Keeps is_in slot first next (n + 1)
     keeps_past f = record { keeps = λ a l i t e. go a l i t e (eqb a n) refl }
       where
-        go : (a : ℕ) → a < n + 1 → isIn a ≡ true → (test : ℕ → Bool) → test a ≡ true → (x : Bool) → eqb a n ≡ x → on_chain test next (n + 1) (get_or first (slot a) 0) ≡ true
-        go a l i t e true q = never (sym f ∙ ap isIn (sym (eqb-true a n q)) ∙ i)
+        go : (a : ℕ) → a < n + 1 → is_in a ≡ true → (test : ℕ → Bool) → test a ≡ true → (x : Bool) → eqb a n ≡ x → on_chain test next (n + 1) (get_or first (slot a) 0) ≡ true
+        go a l i t e true q = never (sym f ∙ ap is_in (sym (eqb-true a n q)) ∙ i)
         go a l i t e false q = let z = eqb-false a n q in rw (add-one n) (on_more_lem t next n _ (k.keeps a (omega arith) i t e))
 
     -- one that is entered
@@ -163,17 +163,17 @@ module _ {isIn : ℕ → Bool} {slot : ℕ → ℕ} where
       unfolding first' next'
       elsewhere test s e f = rw (get_or-set_other first (slot n) s (n + 1) 0 e) (on_more_lem test next' n (get_or first s 0) (on_set_lem test next n (get_or first s 0) n (get_or first (slot n) 0) (omega arith) ∙ f))
 
-      pub keeps_more : Keeps isIn slot (set first (slot n) (n + 1)) (set next n (get_or first (slot n) 0)) (n + 1)
+      pub keeps_more : Keeps is_in slot (set first (slot n) (n + 1)) (set next n (get_or first (slot n) 0)) (n + 1)
       unfolding first' next'
       keeps_more = record { keeps = λ a l i t e. ap (λ (z : ℕ). on_chain t next' z (get_or first' (slot a) 0)) (add-one n) ∙ go a l i t e (eqb a n) refl (eqb (slot a) (slot n)) refl }
         where
-          go : (a : ℕ) → a < n + 1 → isIn a ≡ true → (test : ℕ → Bool) → test a ≡ true → (x : Bool) → eqb a n ≡ x → (y : Bool) → eqb (slot a) (slot n) ≡ y → on_chain test next' (suc n) (get_or first' (slot a) 0) ≡ true
+          go : (a : ℕ) → a < n + 1 → is_in a ≡ true → (test : ℕ → Bool) → test a ≡ true → (x : Bool) → eqb a n ≡ x → (y : Bool) → eqb (slot a) (slot n) ≡ y → on_chain test next' (suc n) (get_or first' (slot a) 0) ≡ true
           go a l i t e true q y r = let z = eqb-true a n q in at_slot t (slot a) (ap slot z) ∙ rw (← z, e)
           go a l i t e false q true r = let z = eqb-false a n q in at_slot t (slot a) (eqb-true (slot a) (slot n) r) ∙ either (t n) (ap (λ (s : ℕ). on_chain t next n (get_or first s 0)) (sym (eqb-true (slot a) (slot n) r)) ∙ k.keeps a (omega arith) i t e)
           go a l i t e false q false r = let z = eqb-false a n q in elsewhere t (slot a) (eqb-false (slot a) (slot n) r) (k.keeps a (omega arith) i t e)
 
     -- a chain answers for all numbers, where those that keep a test are of its slot
-    pub chain_any : (test : ℕ → Bool) (s : ℕ) → ((a : ℕ) → a < n → test a ≡ true → (isIn a ≡ true) × (slot a ≡ s)) → on_chain test next n (get_or first s 0) ≡ any_below test n
+    pub chain_any : (test : ℕ → Bool) (s : ℕ) → ((a : ℕ) → a < n → test a ≡ true → (is_in a ≡ true) × (slot a ≡ s)) → on_chain test next n (get_or first s 0) ≡ any_below test n
     chain_any test s f = go (any_below test n) refl
       where
         one : (a : ℕ) → a < n → test a ≡ true → on_chain test next n (get_or first s 0) ≡ true

@@ -23,5 +23,5 @@ any_below test zero = false
 any_below test (suc n) = any_below test n || test n
 
 -- of the numbers below n, each that is one of them is on the chain of its slot
-pub record Keeps (isIn : ℕ → Bool) (slot : ℕ → ℕ) (first next : List ℕ) (n : ℕ) : Type 0 where
-  pub keeps : (a : ℕ) → a < n → isIn a ≡ true → (test : ℕ → Bool) → test a ≡ true → on_chain test next n (get_or first (slot a) 0) ≡ true
+pub record Keeps (is_in : ℕ → Bool) (slot : ℕ → ℕ) (first next : List ℕ) (n : ℕ) : Type 0 where
+  pub keeps : (a : ℕ) → a < n → is_in a ≡ true → (test : ℕ → Bool) → test a ≡ true → on_chain test next n (get_or first (slot a) 0) ≡ true

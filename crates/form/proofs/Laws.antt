@@ -20,7 +20,7 @@ use Rattle.view.specs.Strings.{string_at}
 use Rattle.form.specs.declared.check.Check.TheVariants.{Fine}
 use Rattle.form.specs.Checks.{must, ◌then◌}
 use Rattle.form.specs.Spots.{on_spot, as_text}
-use Rattle.form.specs.Names.{not_aName, kept, unreserved, simple_check, full_at, reference_check, alias_check, namespace_of, defined_at, namespace_check, definition_check}
+use Rattle.form.specs.Names.{not_a_name, kept, unreserved, simple_check, full_at, reference_check, alias_check, namespace_of, defined_at, namespace_check, definition_check}
 pub use Rattle.form.proofs.Sequels.{must_holds, must_fails, must_fine, then_fine, then_bad, then_next}
 pub use Rattle.form.proofs.Places.{visit_less}
 pub use Rattle.form.proofs.Shapes.{object_own, found_form, found_members}
@@ -42,12 +42,12 @@ dotted_long [] e = never (sym (dotted_some [] e) ∙ empty_none [] refl)
 dotted_long (b ∷ s) e = omega arith
 
 module _ (t : List ℕ) (q : ℕ) (e : simple_check t q ≡ Fine) where
-  simple_parts : (must (is_simple (string_at t q)) (not_aName is_simple t q) ≡ Fine) × (kept (string_at t q) q ≡ Fine)
+  simple_parts : (must (is_simple (string_at t q)) (not_a_name is_simple t q) ≡ Fine) × (kept (string_at t q) q ≡ Fine)
   unfolding simple_check
-  simple_parts = then_fine (must (is_simple (string_at t q)) (not_aName is_simple t q)) (kept (string_at t q) q) e
+  simple_parts = then_fine (must (is_simple (string_at t q)) (not_a_name is_simple t q)) (kept (string_at t q) q) e
 
   pub simple_fine : is_simple (string_at t q) ≡ true
-  simple_fine = must_fine (is_simple (string_at t q)) (not_aName is_simple t q) simple_parts.0
+  simple_fine = must_fine (is_simple (string_at t q)) (not_a_name is_simple t q) simple_parts.0
 
   pub simple_sized : Sized (string_at t q)
   simple_sized = record {
@@ -68,15 +68,15 @@ module _ (t namespace : List ℕ) (q : ℕ) (n : is_namespace namespace ≡ true
   pub reference_fine : reference_check t namespace q ≡ Fine → Full (full_at t namespace q)
   unfolding reference_check full_at
   reference_fine e =
-      let a = then_fine (must (is_name (string_at t q)) (not_aName is_name t q)) (kept (full_name namespace (string_at t q)) q) e in
+      let a = then_fine (must (is_name (string_at t q)) (not_a_name is_name t q)) (kept (full_name namespace (string_at t q)) q) e in
       full_of (full_name namespace (string_at t q))
-      (full_dotted namespace (string_at t q) n (must_fine (is_name (string_at t q)) (not_aName is_name t q) a.0))
+      (full_dotted namespace (string_at t q) n (must_fine (is_name (string_at t q)) (not_a_name is_name t q) a.0))
       (kept_short (full_name namespace (string_at t q)) _ a.1)
 
   module _ (e : alias_check t namespace q ≡ Fine) where
-    alias_parts : (must (is_name (string_at t q)) (not_aName is_name t q) ≡ Fine) × (unreserved (full_at t namespace q) q then kept (full_at t namespace q) q ≡ Fine)
+    alias_parts : (must (is_name (string_at t q)) (not_a_name is_name t q) ≡ Fine) × (unreserved (full_at t namespace q) q then kept (full_at t namespace q) q ≡ Fine)
     unfolding alias_check
-    alias_parts = then_fine (must (is_name (string_at t q)) (not_aName is_name t q)) (unreserved (full_at t namespace q) q then kept (full_at t namespace q) q) e
+    alias_parts = then_fine (must (is_name (string_at t q)) (not_a_name is_name t q)) (unreserved (full_at t namespace q) q then kept (full_at t namespace q) q) e
 
     alias_rest : (unreserved (full_at t namespace q) q ≡ Fine) × (kept (full_at t namespace q) q ≡ Fine)
     alias_rest = then_fine (unreserved (full_at t namespace q) q) (kept (full_at t namespace q) q) alias_parts.1
@@ -85,7 +85,7 @@ module _ (t namespace : List ℕ) (q : ℕ) (n : is_namespace namespace ≡ true
     unfolding full_at
     alias_fine =
         full_of (full_name namespace (string_at t q))
-        (full_dotted namespace (string_at t q) n (must_fine (is_name (string_at t q)) (not_aName is_name t q) alias_parts.0))
+        (full_dotted namespace (string_at t q) n (must_fine (is_name (string_at t q)) (not_a_name is_name t q) alias_parts.0))
         (kept_short (full_name namespace (string_at t q)) _ alias_rest.1)
 
     pub alias_free : is_reserved (full_at t namespace q) ≡ false
@@ -97,8 +97,8 @@ module _ (t enclosing : List ℕ) (m : Members) (q : ℕ) (n : is_namespace encl
   unfolding namespace_check namespace_of
   namespace_fine d e = go (as_text t m.namespace) (rw d at e)
     where
-      go : (s : Spot) → on_spot s (λ w. must (is_namespace (string_at t w)) (not_aName is_namespace t w)) Fine ≡ Fine → is_namespace (on_spot s (string_at t) enclosing) ≡ true
-      go (At w) f = must_fine (is_namespace (string_at t w)) (not_aName is_namespace t w) f
+      go : (s : Spot) → on_spot s (λ w. must (is_namespace (string_at t w)) (not_a_name is_namespace t w)) Fine ≡ Fine → is_namespace (on_spot s (string_at t) enclosing) ≡ true
+      go (At w) f = must_fine (is_namespace (string_at t w)) (not_a_name is_namespace t w) f
       go Nowhere f = n
 
   defined_dotted : (d : Bool) → has_dot (string_at t q) ≡ d → is_name (string_at t q) ≡ true → namespace_check t m q ≡ Fine → is_dotted (defined_at t enclosing m q) ≡ true
@@ -108,11 +108,11 @@ module _ (t enclosing : List ℕ) (m : Members) (q : ℕ) (n : is_namespace encl
   defined_dotted false d e f = full_dotted (namespace_of t enclosing m) (string_at t q) (namespace_fine d f) e
 
   module _ (e : definition_check t enclosing m q ≡ Fine) where
-    named_parts : (must (is_name (string_at t q)) (not_aName is_name t q) ≡ Fine)
+    named_parts : (must (is_name (string_at t q)) (not_a_name is_name t q) ≡ Fine)
         × (namespace_check t m q then unreserved (defined_at t enclosing m q) q then kept (defined_at t enclosing m q) q ≡ Fine)
     unfolding definition_check
     named_parts =
-        then_fine (must (is_name (string_at t q)) (not_aName is_name t q))
+        then_fine (must (is_name (string_at t q)) (not_a_name is_name t q))
         (namespace_check t m q then unreserved (defined_at t enclosing m q) q then kept (defined_at t enclosing m q) q) e
 
     space_parts : (namespace_check t m q ≡ Fine) × (unreserved (defined_at t enclosing m q) q then kept (defined_at t enclosing m q) q ≡ Fine)
@@ -124,7 +124,7 @@ module _ (t enclosing : List ℕ) (m : Members) (q : ℕ) (n : is_namespace encl
     pub definition_fine : Full (defined_at t enclosing m q)
     definition_fine =
         full_of (defined_at t enclosing m q)
-        (defined_dotted (has_dot (string_at t q)) refl (must_fine (is_name (string_at t q)) (not_aName is_name t q) named_parts.0) space_parts.0)
+        (defined_dotted (has_dot (string_at t q)) refl (must_fine (is_name (string_at t q)) (not_a_name is_name t q) named_parts.0) space_parts.0)
         (kept_short (defined_at t enclosing m q) _ last_parts.1)
 
     pub definition_free : is_reserved (defined_at t enclosing m q) ≡ false

@@ -31,7 +31,7 @@ use Rattle.form.specs.declared.names.Named.{Named}
 use Rattle.form.specs.declared.names.Named.TheVariants.{Kept, Wrong}
 use Rattle.form.specs.Checks.{fault, must, ◌then◌}
 use Rattle.form.specs.Spots.{on_spot, as_text}
-use Rattle.form.specs.Names.{not_aName, kept, unreserved, simple_check, full_at, reference_check, alias_check, namespace_of, defined_at, namespace_check, spaced_check, definition_check, named, kept_in}
+use Rattle.form.specs.Names.{not_a_name, kept, unreserved, simple_check, full_at, reference_check, alias_check, namespace_of, defined_at, namespace_check, spaced_check, definition_check, named, kept_in}
 
 -- ---- a string of the text in a buffer that has room for the text: `&all[0..n]` can be lent, and it is the string
 
@@ -109,15 +109,15 @@ kept_copied (Bad x) f m e g h k = let z : ◌≡◌ {A = ℕ} 0 1 = cc in absurd
 -- ---- simple names
 
 module _ (t w : List ℕ) (q : ℕ) {b : Bool} (f : b ≡ is_simple w) where
-  pub simple_not : b ≡ false → {x : Fault} → x ≡ not_aName is_simple t q → Bad x ≡ (must (is_simple w) (not_aName is_simple t q) then kept w q)
+  pub simple_not : b ≡ false → {x : Fault} → x ≡ not_a_name is_simple t q → Bad x ≡ (must (is_simple w) (not_a_name is_simple t q) then kept w q)
   simple_not g h = rw (← f, g, h)
 
-  pub simple_kept : b ≡ true → {r : Check} → r ≡ must (leb (length w) kept_limit) (fault StringTooLong q) → r ≡ (must (is_simple w) (not_aName is_simple t q) then kept w q)
+  pub simple_kept : b ≡ true → {r : Check} → r ≡ must (leb (length w) kept_limit) (fault StringTooLong q) → r ≡ (must (is_simple w) (not_a_name is_simple t q) then kept w q)
   unfolding is_short
   simple_kept g i = rw (← f, g) i
 
 -- of the string at q
-pub simple_at : (t : List ℕ) (q : ℕ) {w : List ℕ} → w ≡ string_at t q → {r : Check} → r ≡ (must (is_simple w) (not_aName is_simple t q) then kept w q) → r ≡ simple_check t q
+pub simple_at : (t : List ℕ) (q : ℕ) {w : List ℕ} → w ≡ string_at t q → {r : Check} → r ≡ (must (is_simple w) (not_a_name is_simple t q) then kept w q) → r ≡ simple_check t q
 unfolding simple_check
 simple_at t q e h = h ∙ rw e
 
@@ -152,31 +152,31 @@ module _ (namespace s m : List ℕ) (q : ℕ) {b : Bool} (e : b ≡ is_reserved 
       (rw (full_reserved namespace s, ← e, f)) h
 
 module _ (t namespace : List ℕ) (q : ℕ) (m : List ℕ) {w : List ℕ} (e : w ≡ string_at t q) {b : Bool} (f : b ≡ is_name w) where
-  pub reference_not : b ≡ false → {x : Fault} → x ≡ not_aName is_name t q → Answers (reference_check t namespace q) (full_at t namespace q) m m (Wrong x)
+  pub reference_not : b ≡ false → {x : Fault} → x ≡ not_a_name is_name t q → Answers (reference_check t namespace q) (full_at t namespace q) m m (Wrong x)
   unfolding reference_check
   reference_not g {x} h =
-      answers_bad (must (is_name (string_at t q)) (not_aName is_name t q)) (kept (full_at t namespace q) q) (full_at t namespace q) m x (fails is_name e f g h)
+      answers_bad (must (is_name (string_at t q)) (not_a_name is_name t q)) (kept (full_at t namespace q) q) (full_at t namespace q) m x (fails is_name e f g h)
 
-  pub alias_not : b ≡ false → {x : Fault} → x ≡ not_aName is_name t q → Answers (alias_check t namespace q) (full_at t namespace q) m m (Wrong x)
+  pub alias_not : b ≡ false → {x : Fault} → x ≡ not_a_name is_name t q → Answers (alias_check t namespace q) (full_at t namespace q) m m (Wrong x)
   unfolding alias_check
   alias_not g {x} h =
-      answers_bad (must (is_name (string_at t q)) (not_aName is_name t q)) (unreserved (full_at t namespace q) q then kept (full_at t namespace q) q) (full_at t namespace q) m x
+      answers_bad (must (is_name (string_at t q)) (not_a_name is_name t q)) (unreserved (full_at t namespace q) q then kept (full_at t namespace q) q) (full_at t namespace q) m x
       (fails is_name e f g h)
 
   module _ (g : b ≡ true) {m' : List ℕ} {r : Named} where
     pub reference_kept : Answers (kept (full_name namespace w) q) (full_name namespace w) m m' r → Answers (reference_check t namespace q) (full_at t namespace q) m m' r
     unfolding reference_check full_at
     reference_kept h =
-        answers_next (must (is_name (string_at t q)) (not_aName is_name t q)) (kept (full_name namespace (string_at t q)) q) (full_name namespace (string_at t q)) m m' r
-        (passes is_name (not_aName is_name t q) e f g) (rw e at h)
+        answers_next (must (is_name (string_at t q)) (not_a_name is_name t q)) (kept (full_name namespace (string_at t q)) q) (full_name namespace (string_at t q)) m m' r
+        (passes is_name (not_a_name is_name t q) e f g) (rw e at h)
 
     pub alias_kept : Answers (unreserved (full_name namespace w) q then kept (full_name namespace w) q) (full_name namespace w) m m' r
         → Answers (alias_check t namespace q) (full_at t namespace q) m m' r
     unfolding alias_check full_at
     alias_kept h =
-        answers_next (must (is_name (string_at t q)) (not_aName is_name t q))
+        answers_next (must (is_name (string_at t q)) (not_a_name is_name t q))
         (unreserved (full_name namespace (string_at t q)) q then kept (full_name namespace (string_at t q)) q) (full_name namespace (string_at t q)) m m' r
-        (passes is_name (not_aName is_name t q) e f g) (rw e at h)
+        (passes is_name (not_a_name is_name t q) e f g) (rw e at h)
 
 -- ---- a name without a dot, in the namespace that is written at w
 
@@ -189,10 +189,10 @@ full_longer namespace s e = go (is_empty namespace) refl
     go false f = omega (arith, rw (e, f) at (length_full namespace s))
 
 module _ (t : List ℕ) (w n q : ℕ) (word m : List ℕ) {v : List ℕ} (o : v ≡ string_at t w) {y : Bool} (z : y ≡ is_namespace v) where
-  pub spaced_not : y ≡ false → {x : Fault} → x ≡ not_aName is_namespace t w → Answers (spaced_check t w (part word 0 n) q) (full_name (string_at t w) (part word 0 n)) m m (Wrong x)
+  pub spaced_not : y ≡ false → {x : Fault} → x ≡ not_a_name is_namespace t w → Answers (spaced_check t w (part word 0 n) q) (full_name (string_at t w) (part word 0 n)) m m (Wrong x)
   unfolding spaced_check
   spaced_not u {x} h =
-      answers_bad (must (is_namespace (string_at t w)) (not_aName is_namespace t w))
+      answers_bad (must (is_namespace (string_at t w)) (not_a_name is_namespace t w))
       (unreserved (full_name (string_at t w) (part word 0 n)) q then kept (full_name (string_at t w) (part word 0 n)) q) (full_name (string_at t w) (part word 0 n)) m x
       (fails is_namespace o z u h)
 
@@ -202,9 +202,9 @@ module _ (t : List ℕ) (w n q : ℕ) (word m : List ℕ) {v : List ℕ} (o : v 
         → Answers (spaced_check t w (part word 0 n) q) (full_name (string_at t w) (part word 0 n)) m m' r
     unfolding spaced_check
     spaced_by {m'} {r} h =
-        answers_next (must (is_namespace (string_at t w)) (not_aName is_namespace t w))
+        answers_next (must (is_namespace (string_at t w)) (not_a_name is_namespace t w))
         (unreserved (full_name (string_at t w) (part word 0 n)) q then kept (full_name (string_at t w) (part word 0 n)) q) (full_name (string_at t w) (part word 0 n)) m m' r
-        (passes is_namespace (not_aName is_namespace t w) o z u) (rw o at h)
+        (passes is_namespace (not_a_name is_namespace t w) o z u) (rw o at h)
 
     pub spaced_reserved : b ≡ true → Answers (spaced_check t w (part word 0 n) q) (full_name (string_at t w) (part word 0 n)) m m (Wrong (fault Reserved q))
     spaced_reserved f = spaced_by (given_reserved v (part word 0 n) m q (e ∙ ap is_reserved (lent_front word n)) f)
@@ -230,10 +230,10 @@ unfolding full_name
 full_fixed a b s h = rw h
 
 module _ (t enclosing : List ℕ) (d : Members) (q : ℕ) (m : List ℕ) {w : List ℕ} (e : w ≡ string_at t q) {b : Bool} (f : b ≡ is_name w) where
-  pub definition_not : b ≡ false → {x : Fault} → x ≡ not_aName is_name t q → Answers (definition_check t enclosing d q) (defined_at t enclosing d q) m m (Wrong x)
+  pub definition_not : b ≡ false → {x : Fault} → x ≡ not_a_name is_name t q → Answers (definition_check t enclosing d q) (defined_at t enclosing d q) m m (Wrong x)
   unfolding definition_check
   definition_not g {x} h =
-      answers_bad (must (is_name (string_at t q)) (not_aName is_name t q))
+      answers_bad (must (is_name (string_at t q)) (not_a_name is_name t q))
       (namespace_check t d q then unreserved (defined_at t enclosing d q) q then kept (defined_at t enclosing d q) q) (defined_at t enclosing d q) m x
       (fails is_name e f g h)
 
@@ -244,9 +244,9 @@ module _ (t enclosing : List ℕ) (d : Members) (q : ℕ) (m : List ℕ) {w : Li
         → Answers (definition_check t enclosing d q) (defined_at t enclosing d q) m m' r
     unfolding definition_check
     named_in {m'} {r} n a i h =
-        answers_next (must (is_name (string_at t q)) (not_aName is_name t q))
+        answers_next (must (is_name (string_at t q)) (not_a_name is_name t q))
         (namespace_check t d q then unreserved (defined_at t enclosing d q) q then kept (defined_at t enclosing d q) q) (defined_at t enclosing d q) m m' r
-        (passes is_name (not_aName is_name t q) e f g)
+        (passes is_name (not_a_name is_name t q) e f g)
         (answers_next (namespace_check t d q) (unreserved (defined_at t enclosing d q) q then kept (defined_at t enclosing d q) q) (defined_at t enclosing d q) m m' r a
         (rw i (rw e at h)))
 
@@ -262,11 +262,11 @@ module _ (t enclosing : List ℕ) (d : Members) (q : ℕ) (m : List ℕ) {w : Li
           named_in enclosing (rw (dots i)) (full_fixed (namespace_of t enclosing d) enclosing (string_at t q) (dots i)) u
 
       module _ (i : c ≡ false) {s : Spot} (j : s ≡ as_text t d.namespace) where
-        space_by : {s' : Spot} → s ≡ s' → namespace_check t d q ≡ on_spot s' (λ p. must (is_namespace (string_at t p)) (not_aName is_namespace t p)) Fine
+        space_by : {s' : Spot} → s ≡ s' → namespace_check t d q ≡ on_spot s' (λ p. must (is_namespace (string_at t p)) (not_a_name is_namespace t p)) Fine
         unfolding namespace_check
         space_by k =
             rw (dots i)
-            (ap (λ (x : Spot). on_spot x (λ p. must (is_namespace (string_at t p)) (not_aName is_namespace t p)) Fine) (sym j ∙ k))
+            (ap (λ (x : Spot). on_spot x (λ p. must (is_namespace (string_at t p)) (not_a_name is_namespace t p)) Fine) (sym j ∙ k))
 
         full_by : {s' : Spot} → s ≡ s' → defined_at t enclosing d q ≡ full_name (on_spot s' (string_at t) enclosing) (string_at t q)
         unfolding defined_at full_at namespace_of
@@ -283,7 +283,7 @@ module _ (t enclosing : List ℕ) (d : Members) (q : ℕ) (m : List ℕ) {w : Li
             → Answers (definition_check t enclosing d q) (defined_at t enclosing d q) m m' r
         unfolding definition_check spaced_check
         definition_space {p} k word n l {m'} {r} h =
-            answers_next (must (is_name (string_at t q)) (not_aName is_name t q))
+            answers_next (must (is_name (string_at t q)) (not_a_name is_name t q))
             (namespace_check t d q then unreserved (defined_at t enclosing d q) q then kept (defined_at t enclosing d q) q) (defined_at t enclosing d q) m m' r
-            (passes is_name (not_aName is_name t q) e f g)
+            (passes is_name (not_a_name is_name t q) e f g)
             (rw (space_by k, full_by k) (rw (sym (lent_front word n) ∙ l) at h))

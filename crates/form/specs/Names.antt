@@ -18,12 +18,12 @@ use Rattle.form.specs.Spots.{on_spot, as_text}
 
 -- 7 stands where the string at q breaks the rule: at the first character after which no string that keeps it can follow, or at the
 -- closing quote
-abbrev pub not_aName : (List ℕ → Bool) → List ℕ → ℕ → Fault
-not_aName keeps t q = fault NotAName (breach_at keeps t q)
+abbrev pub not_a_name : (List ℕ → Bool) → List ℕ → ℕ → Fault
+not_a_name keeps t q = fault NotAName (breach_at keeps t q)
 
 -- the string at q has to keep the rule
 abbrev pub must_keep : (List ℕ → Bool) → List ℕ → ℕ → Check
-must_keep keeps t q = must (keeps (string_at t q)) (not_aName keeps t q)
+must_keep keeps t q = must (keeps (string_at t q)) (not_a_name keeps t q)
 
 abbrev pub kept : List ℕ → ℕ → Check
 kept s q = must (is_short s) (fault StringTooLong q)

@@ -6,7 +6,7 @@ ghost use Rattle.json_scan.specs.Json.{longest};
 ghost use Rattle.view.specs.Strings.{string_at};
 ghost use Rattle.view.specs.Known.{Known};
 ghost use Rattle.form.specs.Checks.{must, ◌then◌};
-ghost use Rattle.form.specs.Names.{not_aName, kept, unreserved, simple_check, full_at, reference_check, alias_check, defined_at, spaced_check, definition_check, named, kept_in};
+ghost use Rattle.form.specs.Names.{not_a_name, kept, unreserved, simple_check, full_at, reference_check, alias_check, defined_at, spaced_check, definition_check, named, kept_in};
 
 use super::check::{Check, must};
 use super::spots::as_text;
@@ -26,7 +26,7 @@ pub enum Named {
 
 // 7, and where the string at `at` breaks the rule of simple names.
 fn not_simple(text: &[u8], at: usize) -> Fault
-    ensures { result ≡ not_aName is_simple text.now at }
+    ensures { result ≡ not_a_name is_simple text.now at }
 {
     Fault {
         why: Why::NotAName,
@@ -36,7 +36,7 @@ fn not_simple(text: &[u8], at: usize) -> Fault
 
 // The same of the rule of names.
 fn not_a_name(text: &[u8], at: usize) -> Fault
-    ensures { result ≡ not_aName is_name text.now at }
+    ensures { result ≡ not_a_name is_name text.now at }
 {
     Fault {
         why: Why::NotAName,
@@ -46,7 +46,7 @@ fn not_a_name(text: &[u8], at: usize) -> Fault
 
 // The same of the rule of namespaces.
 fn not_a_namespace(text: &[u8], at: usize) -> Fault
-    ensures { result ≡ not_aName is_namespace text.now at }
+    ensures { result ≡ not_a_name is_namespace text.now at }
 {
     Fault {
         why: Why::NotAName,
@@ -56,7 +56,7 @@ fn not_a_namespace(text: &[u8], at: usize) -> Fault
 
 // A simple name that can be kept, the string at `at`: 7, 9.
 fn simple(text: &[u8], written: &[u8], at: usize) -> Check
-    ensures { result ≡ must (is_simple written.now) (not_aName is_simple text.now at) then kept written.now at }
+    ensures { result ≡ must (is_simple written.now) (not_a_name is_simple text.now at) then kept written.now at }
 {
     if !is_simple(written) {
         return Check::Bad(not_simple(text, at));

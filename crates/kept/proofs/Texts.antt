@@ -23,7 +23,7 @@ use Rattle.view.proofs.Laws.{in_text}
 use Rattle.form.specs.declared.check.Check.TheVariants.{Fine}
 use Rattle.form.specs.Checks.{must, ◌then◌}
 use Rattle.form.specs.Spots.{on_spot, as_text}
-use Rattle.form.specs.Names.{not_aName, kept, unreserved, simple_check, full_at, reference_check, alias_check, namespace_of, defined_at, namespace_check, definition_check}
+use Rattle.form.specs.Names.{not_a_name, kept, unreserved, simple_check, full_at, reference_check, alias_check, namespace_of, defined_at, namespace_check, definition_check}
 use Rattle.form.specs.Forms.{word_kind}
 use Rattle.resolve.specs.Kinds.{is_kind, is_definition}
 use Rattle.resolve.specs.Rules.{is_full_name, is_own_name, good_text}
@@ -67,7 +67,7 @@ pub record Own (t : List ℕ) (q : ℕ) : Type 0 where
 pub simple_own : (t : List ℕ) (q : ℕ) → simple_check t q ≡ Fine → Own t q
 unfolding simple_check is_own_name
 simple_own t q e =
-    let z = then_fine (must (is_simple (string_at t q)) (not_aName is_simple t q)) (kept (string_at t q) q) e in
+    let z = then_fine (must (is_simple (string_at t q)) (not_a_name is_simple t q)) (kept (string_at t q) q) e in
     let a = must_true (is_simple (string_at t q)) _ z.0 in
     let b = must_true (is_short (string_at t q)) _ z.1 in
     record { keeps = and_intro (is_short (string_at t q)) (is_simple (string_at t q)) b a; within = string_within t q (simple_some (string_at t q) a) }
@@ -87,7 +87,7 @@ pub reference_named : (t namespace : List ℕ) (q : ℕ) → is_namespace namesp
 unfolding reference_check full_at
 reference_named t namespace q n e =
     let full = full_name namespace (string_at t q) in
-    let z = then_fine (must (is_name (string_at t q)) (not_aName is_name t q)) (kept full q) e in
+    let z = then_fine (must (is_name (string_at t q)) (not_a_name is_name t q)) (kept full q) e in
     let a = must_true (is_name (string_at t q)) _ z.0 in
     record { dotted = full_dotted namespace (string_at t q) n a; short = must_true (is_short full) _ z.1; within = string_within t q (name_some (string_at t q) a) }
 
@@ -100,7 +100,7 @@ pub alias_free : (t namespace : List ℕ) (q : ℕ) → is_namespace namespace �
 unfolding alias_check full_at
 alias_free t namespace q n e =
     let full = full_name namespace (string_at t q) in
-    let z = then_fine (must (is_name (string_at t q)) (not_aName is_name t q)) (unreserved full q then kept full q) e in
+    let z = then_fine (must (is_name (string_at t q)) (not_a_name is_name t q)) (unreserved full q then kept full q) e in
     let y = then_fine (unreserved full q) (kept full q) z.1 in
     let a = must_true (is_name (string_at t q)) _ z.0 in
     record {
@@ -121,7 +121,7 @@ module _ (t enclosing : List ℕ) (m : Members) (q : ℕ) (n : is_namespace encl
       s : List ℕ
       s = string_at t q
 
-      go : (x : Bool) → has_dot s ≡ x → (w : Spot) → cond x Fine (on_spot w (λ w. must (is_namespace (string_at t w)) (not_aName is_namespace t w)) Fine) ≡ Fine
+      go : (x : Bool) → has_dot s ≡ x → (w : Spot) → cond x Fine (on_spot w (λ w. must (is_namespace (string_at t w)) (not_a_name is_namespace t w)) Fine) ≡ Fine
           → is_dotted (full_name (on_spot w (string_at t) enclosing) s) ≡ true
       go true h w f = rw (full_any (on_spot w (string_at t) enclosing) [] s h) (full_dotted [] s refl a)
       go false h (At w) f = full_dotted (string_at t w) s (must_true (is_namespace (string_at t w)) _ f) a
@@ -131,7 +131,7 @@ module _ (t enclosing : List ℕ) (m : Members) (q : ℕ) (n : is_namespace encl
   unfolding definition_check
   definition_free e =
       let full = defined_at t enclosing m q in
-      let z = then_fine (must (is_name (string_at t q)) (not_aName is_name t q)) (namespace_check t m q then unreserved full q then kept full q) e in
+      let z = then_fine (must (is_name (string_at t q)) (not_a_name is_name t q)) (namespace_check t m q then unreserved full q then kept full q) e in
       let y = then_fine (namespace_check t m q) (unreserved full q then kept full q) z.1 in
       let x = then_fine (unreserved full q) (kept full q) y.1 in
       let a = must_true (is_name (string_at t q)) _ z.0 in

@@ -1,4 +1,4 @@
--- The marked examples of document 01, each a question and its answer: one list, and one claim over all of it.
+-- The marked examples of document 01, each a question and its answer: one list; the claim over it is in proofs/Claim.antt.
 -- Assumes nothing.
 use Rattle.std.specs.Prelude.{cond, ◌&&◌, List, [], ◌∷◌, map, length, ℕ}
 use Prim.Native.String.{String}

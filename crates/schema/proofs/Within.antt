@@ -33,7 +33,7 @@ use Rattle.form.specs.declared.forms.Form.{Form}
 use Rattle.form.specs.declared.forms.Form.TheVariants as form
 use Rattle.form.specs.Checks.{fault, must, ◌then◌}
 use Rattle.form.specs.Spots.{on_spot, is_text}
-use Rattle.form.specs.Names.{not_aName, kept, unreserved, simple_check, full_at, reference_check, alias_check, namespace_check, defined_at, definition_check, named, kept_in}
+use Rattle.form.specs.Names.{not_a_name, kept, unreserved, simple_check, full_at, reference_check, alias_check, namespace_check, defined_at, definition_check, named, kept_in}
 use Rattle.form.specs.Forms.{word_kind, object_form, form_by, form_within, form_of, most_nested}
 use Rattle.form.proofs.Laws.{must_fine, then_fine, named_kept, kept_copied}
 
@@ -62,9 +62,9 @@ string_within t q e = go (eqb (byte_at t q) 34) refl e
     go true f g = in_text t q (byte_at t q) 34 refl (eqb-true (byte_at t q) 34 f) (omega arith)
     go false f g = never (sym g)
 
-named_within : (t : List ℕ) (q : ℕ) (c : Check) → (must (is_name (string_at t q)) (not_aName is_name t q) then c) ≡ Fine → q < length t
+named_within : (t : List ℕ) (q : ℕ) (c : Check) → (must (is_name (string_at t q)) (not_a_name is_name t q) then c) ≡ Fine → q < length t
 named_within t q c e =
-    string_within t q (name_some (string_at t q) (must_fine (is_name (string_at t q)) (not_aName is_name t q) (then_fine (must (is_name (string_at t q)) (not_aName is_name t q)) c e).0))
+    string_within t q (name_some (string_at t q) (must_fine (is_name (string_at t q)) (not_a_name is_name t q) (then_fine (must (is_name (string_at t q)) (not_a_name is_name t q)) c e).0))
 
 kept_short : (s : List ℕ) (q : ℕ) → kept s q ≡ Fine → length s ≤ kept_limit
 unfolding is_short
@@ -86,13 +86,13 @@ module _ (t : List ℕ) (q : ℕ) where
   unfolding simple_check
   simple_within e =
       string_within t q (simple_some (string_at t q)
-      (must_fine (is_simple (string_at t q)) (not_aName is_simple t q) (then_fine (must (is_simple (string_at t q)) (not_aName is_simple t q)) (kept (string_at t q) q) e).0))
+      (must_fine (is_simple (string_at t q)) (not_a_name is_simple t q) (then_fine (must (is_simple (string_at t q)) (not_a_name is_simple t q)) (kept (string_at t q) q) e).0))
 
   pub reference_passed : (namespace : List ℕ) → reference_check t namespace q ≡ Fine → Passed t (full_at t namespace q) q
   unfolding reference_check
   reference_passed namespace e =
       let k = kept (full_at t namespace q) q in
-      record { within = named_within t q k e; short = kept_short (full_at t namespace q) q (last_fine (must (is_name (string_at t q)) (not_aName is_name t q)) k e) }
+      record { within = named_within t q k e; short = kept_short (full_at t namespace q) q (last_fine (must (is_name (string_at t q)) (not_a_name is_name t q)) k e) }
 
   pub alias_passed : (namespace : List ℕ) → alias_check t namespace q ≡ Fine → Passed t (full_at t namespace q) q
   unfolding alias_check
@@ -101,7 +101,7 @@ module _ (t : List ℕ) (q : ℕ) where
       let k = unreserved full q then kept full q in
       record {
         within = named_within t q k e;
-        short = kept_short full q (last_fine (unreserved full q) (kept full q) (last_fine (must (is_name (string_at t q)) (not_aName is_name t q)) k e));
+        short = kept_short full q (last_fine (unreserved full q) (kept full q) (last_fine (must (is_name (string_at t q)) (not_a_name is_name t q)) k e));
       }
 
   pub definition_passed : (enclosing : List ℕ) (m : Members) → definition_check t enclosing m q ≡ Fine → Passed t (defined_at t enclosing m q) q
@@ -113,7 +113,7 @@ module _ (t : List ℕ) (q : ℕ) where
       record {
         within = named_within t q l e;
         short = kept_short full q (last_fine (unreserved full q) (kept full q)
-            (last_fine (namespace_check t m q) k (last_fine (must (is_name (string_at t q)) (not_aName is_name t q)) l e)));
+            (last_fine (namespace_check t m q) k (last_fine (must (is_name (string_at t q)) (not_a_name is_name t q)) l e)));
       }
 
 -- its full name lies in a buffer

@@ -1,5 +1,5 @@
 // Standard input line by line. A line is handed out before more is read than what came with it.
-ghost use Rattle.std.specs.Prelude.{◌<◌, ◌≤◌, length, IfOk};
+ghost use Rattle.std.specs.Prelude.{◌≡◌, ◌<◌, ◌≤◌, length, IfOk};
 ghost use Rattle.script.specs.Input.{Within};
 
 use std::io;
@@ -95,9 +95,10 @@ fn read_more(mut stdin: Stdin, buf: &mut [u8], n: usize) -> io::Result<usize>
     Ok(n + got)
 }
 
-// Reads until the buffer is full or the input ends, and answers how many bytes there are.
+// Reads until the buffer is full or the input ends, and answers how many bytes there are. After a read that failed the buffer holds anything.
 pub fn read_full(stdin: Stdin, buf: &mut [u8]) -> io::Result<usize>
-    ensures { IfOk result (λ n. n ≤ length buf.new) }
+    ensures read { IfOk result (λ n. n ≤ length buf.new) }
+    ensures kept { length buf.new ≡ length buf.old }
 {
     let mut to = 0;
     while to < buf.len() {
@@ -161,9 +162,10 @@ fn settled(stdin: Stdin, buf: &mut [u8], line: Line) -> io::Result<Line>
     Ok(line)
 }
 
-// The line after a line.
+// The line after a line. After a read that failed the buffer holds anything, and no line is left in it.
 pub fn next_line(stdin: Stdin, buf: &mut [u8], before: Line) -> io::Result<Line>
-    ensures { IfOk result (Within (length buf.new)) }
+    ensures read { IfOk result (Within (length buf.new)) }
+    ensures kept { length buf.new ≡ length buf.old }
 {
     let line = settled(stdin, buf, before)?;
     let from = line.next;

@@ -23,7 +23,7 @@ use Rattle.form.specs.declared.check.Check.{Check}
 use Rattle.form.specs.declared.check.Check.TheVariants.{Fine, Bad}
 use Rattle.form.specs.Checks.{fault, must, ◌then◌}
 use Rattle.form.specs.Spots.{on_spot}
-use Rattle.form.specs.Names.{not_aName}
+use Rattle.form.specs.Names.{not_a_name}
 use Rattle.schema.specs.Out.{Out, refused, read, rows_then, and_then, after, each}
 use Rattle.told.specs.Told.{Rule, simple, name, namespace, keeps_of, is_own, Told}
 
@@ -59,9 +59,9 @@ module _ (t : List ℕ) where
   must_other b w q e = must_fair b (fault w q) (λ _. other w q e)
 
   -- 7, for the string at q
-  pub rule_fair : (r : Rule) (q : ℕ) → byte_at t q ≡ 34 → FairCheck (must (keeps_of r (string_at t q)) (not_aName (keeps_of r) t q))
+  pub rule_fair : (r : Rule) (q : ℕ) → byte_at t q ≡ 34 → FairCheck (must (keeps_of r (string_at t q)) (not_a_name (keeps_of r) t q))
   rule_fair r q o =
-      must_fair (keeps_of r (string_at t q)) (not_aName (keeps_of r) t q)
+      must_fair (keeps_of r (string_at t q)) (not_a_name (keeps_of r) t q)
       (λ e. (refl, λ h. record { rule = r; quote = q; opens = o; fails = e; breaks = breaks (lettered r) t q o e }))
 
   pub then_fair : (a b : Check) → FairCheck a → (a ≡ Fine → FairCheck b) → FairCheck (a then b)

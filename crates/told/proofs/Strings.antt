@@ -25,7 +25,7 @@ use Rattle.form.specs.declared.check.Check.{Check}
 use Rattle.form.specs.declared.check.Check.TheVariants.{Fine, Bad}
 use Rattle.form.specs.Checks.{fault, must, ◌then◌, each_of}
 use Rattle.form.specs.Spots.{on_spot, is_text, as_text, as_array, all_texts, aliases_in}
-use Rattle.form.specs.Names.{not_aName, kept, unreserved, simple_check, full_at, reference_check, alias_check, namespace_check, defined_at, definition_check}
+use Rattle.form.specs.Names.{not_a_name, kept, unreserved, simple_check, full_at, reference_check, alias_check, namespace_check, defined_at, definition_check}
 use Rattle.form.proofs.Laws.{must_fine, then_fine}
 use Rattle.rules.specs.declared.standing.Standing.{Standing}
 use Rattle.rules.specs.declared.standing.Standing.TheVariants.{Alone, MemberOf}
@@ -95,11 +95,11 @@ module _ (t : List ℕ) where
   module _ (q : ℕ) (o : Quoted q) where
     pub simple_fair : FairCheck t (simple_check t q)
     unfolding simple_check
-    simple_fair = then_fair t (must (is_simple (string_at t q)) (not_aName is_simple t q)) (kept (string_at t q) q) (rule_fair t simple q o) (λ _. kept_fair (string_at t q) q)
+    simple_fair = then_fair t (must (is_simple (string_at t q)) (not_a_name is_simple t q)) (kept (string_at t q) q) (rule_fair t simple q o) (λ _. kept_fair (string_at t q) q)
 
     pub reference_fair : (n : List ℕ) → FairCheck t (reference_check t n q)
     unfolding reference_check
-    reference_fair n = then_fair t (must (is_name (string_at t q)) (not_aName is_name t q)) (kept (full_at t n q) q) (rule_fair t name q o) (λ _. kept_fair (full_at t n q) q)
+    reference_fair n = then_fair t (must (is_name (string_at t q)) (not_a_name is_name t q)) (kept (full_at t n q) q) (rule_fair t name q o) (λ _. kept_fair (full_at t n q) q)
 
     given_fair : (f : List ℕ) → FairCheck t (unreserved f q then kept f q)
     given_fair f = then_fair t (unreserved f q) (kept f q) (free_fair f q) (λ _. kept_fair f q)
@@ -107,7 +107,7 @@ module _ (t : List ℕ) where
     pub alias_fair : (n : List ℕ) → FairCheck t (alias_check t n q)
     unfolding alias_check
     alias_fair n =
-        then_fair t (must (is_name (string_at t q)) (not_aName is_name t q)) (unreserved (full_at t n q) q then kept (full_at t n q) q) (rule_fair t name q o)
+        then_fair t (must (is_name (string_at t q)) (not_a_name is_name t q)) (unreserved (full_at t n q) q then kept (full_at t n q) q) (rule_fair t name q o)
         (λ _. given_fair (full_at t n q))
 
     space_fair : (m : Members) → FairCheck t (namespace_check t m q)
@@ -115,7 +115,7 @@ module _ (t : List ℕ) where
     space_fair m = go (has_dot (string_at t q)) (as_text t m.namespace) (as_text_lem m.namespace)
       where
         go : (b : Bool) (s : Spot) → ((w : ℕ) → s ≡ At w → Quoted w)
-            → FairCheck t (cond b Fine (on_spot s (λ w. must (is_namespace (string_at t w)) (not_aName is_namespace t w)) Fine))
+            → FairCheck t (cond b Fine (on_spot s (λ w. must (is_namespace (string_at t w)) (not_a_name is_namespace t w)) Fine))
         go true s h = tt
         go false (At w) h = rule_fair t namespace w (h w refl)
         go false Nowhere h = tt
@@ -124,7 +124,7 @@ module _ (t : List ℕ) where
     unfolding definition_check
     definition_fair n m =
         let f = defined_at t n m q in
-        then_fair t (must (is_name (string_at t q)) (not_aName is_name t q)) (namespace_check t m q then unreserved f q then kept f q) (rule_fair t name q o)
+        then_fair t (must (is_name (string_at t q)) (not_a_name is_name t q)) (namespace_check t m q then unreserved f q then kept f q) (rule_fair t name q o)
         (λ _. then_fair t (namespace_check t m q) (unreserved f q then kept f q) (space_fair m) (λ _. given_fair f))
 
   -- ---- symbols
