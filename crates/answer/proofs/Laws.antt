@@ -1,5 +1,6 @@
 -- Two refusals with one number are one refusal, and two answers with the same numbers are one answer.
 -- Assumes nothing.
+use Rattle.std.specs.Prelude.{Ok, Err, Result}
 use mathlib.Core.Path.{◌≡◌, refl, sym, ap, ◌∙◌}
 use mathlib.Core.Bool.{cond}
 use mathlib.Core.List.{List, [], ◌∷◌}
@@ -12,8 +13,6 @@ use Rattle.answer.specs.declared.refusal.Why.TheVariants.{TextTooLong, NotJson, 
 use Rattle.answer.specs.declared.counts.Counts.{Counts}
 use Rattle.answer.specs.declared.refusal.Refusal.{Refusal}
 use Rattle.answer.specs.declared.numbers.Numbers.{Numbers}
-use Rattle.answer.specs.declared.Answer.{Answer}
-use Rattle.answer.specs.declared.Answer.TheVariants.{Done, Refused}
 use Rattle.answer.specs.Numbers.{number_of}
 use Rattle.answer.specs.Answers.{accepted, of_counts, of_refusal, numbers_of}
 
@@ -142,8 +141,8 @@ counts_one c d e = λ i. record { declarations = first e i; rows = second e i; s
 pub never_both : (r : Refusal) (a b c : ℕ) → of_refusal r ≡ accepted a b c → ⊥
 never_both r a b c e = never_zero r.why (number e)
 
-pub numbers_one : (a b : Answer) → numbers_of a ≡ numbers_of b → a ≡ b
-numbers_one (Done c) (Done d) e = ap Done (counts_one c d e)
-numbers_one (Done c) (Refused s) e = absurd (never_both s _ _ _ (sym e))
-numbers_one (Refused r) (Done d) e = absurd (never_both r _ _ _ e)
-numbers_one (Refused r) (Refused s) e = ap Refused (refusal_one r s e)
+pub numbers_one : (a b : Result Counts Refusal) → numbers_of a ≡ numbers_of b → a ≡ b
+numbers_one (Ok c) (Ok d) e = ap Ok (counts_one c d e)
+numbers_one (Ok c) (Err s) e = absurd (never_both s _ _ _ (sym e))
+numbers_one (Err r) (Ok d) e = absurd (never_both r _ _ _ e)
+numbers_one (Err r) (Err s) e = ap Err (refusal_one r s e)

@@ -1,13 +1,11 @@
 -- An answer is an enum. Here are document 01's number and values for each of its cases; promises and theorems speak of answers by them.
 -- Naming of `set`, Written and Print of `canonical` have theirs beside them, made of the same parts. That they tell the answer: proofs/Laws, `numbers_one`.
 -- Assumes nothing.
-use Rattle.std.specs.Prelude.{ℕ}
+use Rattle.std.specs.Prelude.{ℕ, Result, Ok, Err}
 use Rattle.answer.specs.Numbers.{number_of}
 use Rattle.answer.specs.declared.counts.Counts.{Counts}
 use Rattle.answer.specs.declared.refusal.Refusal.{Refusal}
 use Rattle.answer.specs.declared.numbers.Numbers.{Numbers}
-use Rattle.answer.specs.declared.Answer.{Answer}
-use Rattle.answer.specs.declared.Answer.TheVariants.{Done, Refused}
 
 -- accepted: 0, and up to three values
 abbrev pub accepted : ℕ → ℕ → ℕ → Numbers
@@ -25,6 +23,6 @@ abbrev pub of_refusal : Refusal → Numbers
 of_refusal r = refused (number_of r.why) r.place r.at
 
 -- what open and put answer
-abbrev pub numbers_of : Answer → Numbers
-numbers_of (Done c) = of_counts c
-numbers_of (Refused r) = of_refusal r
+abbrev pub numbers_of : Result Counts Refusal → Numbers
+numbers_of (Ok c) = of_counts c
+numbers_of (Err r) = of_refusal r

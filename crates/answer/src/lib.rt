@@ -9,9 +9,5 @@ pub use counts::Counts;
 pub use numbers::Numbers;
 pub use refusal::{Fault, Refusal, Why};
 
-// What open and put answer.
-#[derive(Clone, Copy)]
-pub enum Answer {
-    Done(Counts),
-    Refused(Refusal),
-}
+// An answer: a result, or a refusal with its number, its place and its position.
+pub type Answer<T> = Result<T, Refusal>;

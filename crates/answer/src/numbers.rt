@@ -2,7 +2,7 @@
 ghost use Rattle.std.specs.Prelude.{◌≡◌};
 ghost use Rattle.answer.specs.Answers.{accepted, of_refusal, numbers_of};
 
-use crate::{Answer, Refusal};
+use crate::{Answer, Counts, Refusal};
 
 // 0 and what was accepted, or the refusal's number, its declaration's place and the byte position.
 #[derive(Clone, Copy)]
@@ -38,12 +38,12 @@ impl Numbers {
         }
     }
 
-    pub fn of(a: Answer) -> Self
+    pub fn of(a: Answer<Counts>) -> Self
         ensures { result ≡ numbers_of a }
     {
         match a {
-            Answer::Refused(r) => Numbers::refused(r),
-            Answer::Done(c) => Numbers {
+            Err(r) => Numbers::refused(r),
+            Ok(c) => Numbers {
                 number: 0,
                 first: c.declarations,
                 second: c.rows,

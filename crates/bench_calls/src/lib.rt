@@ -51,8 +51,8 @@ pub extern "C" fn bench_declare(text: &[u8], draft: &mut [u8]) -> usize
     ensures { result ≡ rows_read (declared text.now) }
 {
     match schema::declare(text, draft) {
-        Walked::Read(counts) => counts.rows,
-        Walked::Bad(_) => 0,
+        Ok(counts) => counts.rows,
+        Err(_) => 0,
     }
 }
 
@@ -67,8 +67,8 @@ fn rows_in(a: Answer) -> usize
     ensures { result ≡ rows_in (numbers_of a) }
 {
     match a {
-        Answer::Done(c) => c.rows,
-        Answer::Refused(_) => 0,
+        Ok(c) => c.rows,
+        Err(_) => 0,
     }
 }
 

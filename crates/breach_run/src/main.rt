@@ -30,8 +30,8 @@ fn put_answer(
     draft: &mut [u8],
 ) -> usize {
     match schema::declare(text, draft) {
-        Walked::Bad(f) => put_fault(stdout, out, at, f),
-        Walked::Read(_) => put(stdout, out, at, b"ok"),
+        Err(f) => put_fault(stdout, out, at, f),
+        Ok(_) => put(stdout, out, at, b"ok"),
     }
 }
 

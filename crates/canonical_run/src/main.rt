@@ -47,8 +47,8 @@ fn answer(
 ) -> usize {
     set::open(mem);
     match set::put(mem, 0, text) {
-        Answer::Refused(r) => put_refusal(stdout, out, 0, r),
-        Answer::Done(_) => put_canonical(stdout, mem, buffer, out),
+        Err(r) => put_refusal(stdout, out, 0, r),
+        Ok(_) => put_canonical(stdout, mem, buffer, out),
     }
 }
 

@@ -14,8 +14,8 @@ pub(crate) fn of_naming(a: Naming) -> Numbers
     ensures { result ≡ numbers_of_naming a }
 {
     match a {
-        Naming::Refused(r) => Numbers::refused(r),
-        Naming::Named(length) => Numbers::accepted(length),
+        Err(r) => Numbers::refused(r),
+        Ok(length) => Numbers::accepted(length),
     }
 }
 

@@ -1,5 +1,6 @@
 -- When a value fits a type: one law for each way out of the code, and the turns of its loops.
 -- Assumes nothing.
+use Rattle.std.specs.Prelude.{Option, Some, None}
 use mathlib.Core.Path.{◌≡◌, refl, sym, ap, ◌∙◌}
 use mathlib.Core.Bool.{Bool, true, false, ◌&&◌}
 use mathlib.Core.List.{List, ◌∷◌, map}
@@ -18,13 +19,10 @@ use Rattle.resolve.specs.Kinds.{is_kind}
 use Rattle.resolve.specs.Resolve.{definition_in}
 use Rattle.resolve.proofs.KindLaws.{kind_is}
 use Rattle.resolve.proofs.MemoryLaws.{rows_next, rows_end}
-use Rattle.view.specs.declared.space.Spot.{Spot}
-use Rattle.view.specs.declared.space.Spot.TheVariants.{At, Nowhere}
-use Rattle.view.specs.declared.members.Entry.{Entry}
-use Rattle.view.specs.declared.members.Entry.TheVariants.{Of, Last}
 use Rattle.view.specs.Elements.{first_element, next_element, elements_at, elements}
 use Rattle.view.specs.Strings.{string_at}
-use Rattle.view.specs.Members.{first_key, key_behind, keys_at, Member, member_of, members_at, member, entry_of}
+use Rattle.view.specs.Members.{first_key, key_behind, keys_at, member_of, members_at, member, entry_of, entry}
+use Rattle.view.specs.declared.members.Member.{Member}
 use Rattle.view.proofs.Laws.{left_start, left_done, left_next, keys_done, key_of, own, true_turn, keys_turn, left_behind}
 use Rattle.values.specs.Values.{is_array, is_object, is_fixed}
 use Rattle.resolve.specs.Rules.{some}
@@ -65,52 +63,52 @@ module _ {a b : Bool} (e : a ≡ b) where
 
 -- ---- each element
 
-pub each_start : (t : List ℕ) (test : ℕ → Bool) (p : ℕ) {s : Spot} → s ≡ first_element t p → every test (elements_at t s) ≡ every test (elements t p)
+pub each_start : (t : List ℕ) (test : ℕ → Bool) (p : ℕ) {s : Option ℕ} → s ≡ first_element t p → every test (elements_at t s) ≡ every test (elements t p)
 each_start t test p e = ap (every test) (left_start t p e)
 
-module _ (t : List ℕ) (test : ℕ → Bool) {s : Spot} {x : Bool} (inv : every test (elements_at t s) ≡ x) where
-  pub each_done : s ≡ Nowhere → true ≡ x
+module _ (t : List ℕ) (test : ℕ → Bool) {s : Option ℕ} {x : Bool} (inv : every test (elements_at t s) ≡ x) where
+  pub each_done : s ≡ None → true ≡ x
   unfolding every
   each_done e = sym (ap (every test) (left_done t e)) ∙ inv
 
-  module _ {q : ℕ} (e : s ≡ At q) {b : Bool} (f : b ≡ test q) where
+  module _ {q : ℕ} (e : s ≡ Some q) {b : Bool} (f : b ≡ test q) where
     pub each_bad : b ≡ false → false ≡ x
     unfolding every
     each_bad g = sym (ap (every test) (left_next t e refl) ∙ rw (← f, g)) ∙ inv
 
-    pub each_on : b ≡ true → {s' : Spot} → s' ≡ next_element t q → every test (elements_at t s') ≡ x
+    pub each_on : b ≡ true → {s' : Option ℕ} → s' ≡ next_element t q → every test (elements_at t s') ≡ x
     unfolding every
     each_on g h = sym (ap (every test) (left_next t e h) ∙ rw (← f, g)) ∙ inv
 
-pub each_less : (t : List ℕ) {s s' : Spot} {q : ℕ} → s ≡ At q → s' ≡ next_element t q → length (elements_at t s') < length (elements_at t s)
+pub each_less : (t : List ℕ) {s s' : Option ℕ} {q : ℕ} → s ≡ Some q → s' ≡ next_element t q → length (elements_at t s') < length (elements_at t s)
 each_less t e f = let z = ap length (left_next t e f) in omega arith
 
 -- ---- each member
 
 -- the entry is that of its own key, and the answer for the members that are left is the answer
-pub record Visiting (t : List ℕ) (test : Member → Bool) (x : Bool) (e : Entry) : Type 0 where
+pub record Visiting (t : List ℕ) (test : Member → Bool) (x : Bool) (e : Option Member) : Type 0 where
   pub true_entry : e ≡ entry_of t (key_of e)
   pub rest : every test (left_behind t e) ≡ x
 
-pub visit_start : (t : List ℕ) (test : Member → Bool) (p : ℕ) {e : Entry} → e ≡ entry_of t (first_key t p) → Visiting t test (every test (members_at t p)) e
+pub visit_start : (t : List ℕ) (test : Member → Bool) (p : ℕ) {e : Option Member} → e ≡ entry_of t (first_key t p) → Visiting t test (every test (members_at t p)) e
 unfolding members_at
 visit_start t test p {e} h = record {
   true_entry = true_turn t (first_key t p) h;
-  rest = ap (λ (s : Spot). every test (map (member_of t) (keys_at t s))) (own t e (first_key t p) h);
+  rest = ap (λ (s : Option ℕ). every test (map (member_of t) (keys_at t s))) (own t e (first_key t p) h);
 }
 
-module _ (t : List ℕ) (test : Member → Bool) {x : Bool} {e : Entry} (v : Visiting t test x e) where
-  pub visit_end : e ≡ Last → true ≡ x
+module _ (t : List ℕ) (test : Member → Bool) {x : Bool} {e : Option Member} (v : Visiting t test x e) where
+  pub visit_end : e ≡ None → true ≡ x
   unfolding every
   visit_end h =
-      sym (ap (λ (l : Entry). every test (left_behind t l)) h ∙ ap (λ (l : List ℕ). every test (map (member_of t) l)) (keys_done t)) ∙ v.rest
+      sym (ap (λ (l : Option Member). every test (left_behind t l)) h ∙ ap (λ (l : List ℕ). every test (map (member_of t) l)) (keys_done t)) ∙ v.rest
 
-  module _ {k q : ℕ} (h : e ≡ Of k q) {b : Bool} (f : b ≡ test (member_of t k)) where
+  module _ {k q : ℕ} (h : e ≡ entry k q) {b : Bool} (f : b ≡ test (member_of t k)) where
     pub visit_bad : b ≡ false → false ≡ x
     unfolding every
     visit_bad g = sym (ap (λ (l : List ℕ). every test (map (member_of t) l)) (keys_turn t v.true_entry h refl) ∙ rw (← f, g)) ∙ v.rest
 
-    pub visit_on : b ≡ true → {e' : Entry} → e' ≡ entry_of t (key_behind t q) → Visiting t test x e'
+    pub visit_on : b ≡ true → {e' : Option Member} → e' ≡ entry_of t (key_behind t q) → Visiting t test x e'
     unfolding every
     visit_on g d = record {
       true_entry = true_turn t (key_behind t q) d;
@@ -118,12 +116,12 @@ module _ (t : List ℕ) (test : Member → Bool) {x : Bool} {e : Entry} (v : Vis
     }
 
 -- the value under a member's key
-module _ (t : List ℕ) (go : List Row → ℕ → Bool) (type : List Row) (p k : ℕ) {s : Spot} (e : s ≡ member t p (string_at t k)) where
-  pub member_none : s ≡ Nowhere → false ≡ member_fits t go type p (member_of t k)
+module _ (t : List ℕ) (go : List Row → ℕ → Bool) (type : List Row) (p k : ℕ) {s : Option ℕ} (e : s ≡ member t p (string_at t k)) where
+  pub member_none : s ≡ None → false ≡ member_fits t go type p (member_of t k)
   unfolding member_fits on_value
   member_none f = rw (← e, f)
 
-  pub member_value : {v : ℕ} → s ≡ At v → {x : Bool} → x ≡ go type v → x ≡ member_fits t go type p (member_of t k)
+  pub member_value : {v : ℕ} → s ≡ Some v → {x : Bool} → x ≡ go type v → x ≡ member_fits t go type p (member_of t k)
   unfolding member_fits on_value
   member_value f g = rw (← e, f) g
 
@@ -155,13 +153,13 @@ module _ (m : List ℕ) (n : ℕ) (t : List ℕ) (go : List Row → ℕ → Bool
       unfolding field_fits
       field_other f = rw (here, ← e, f)
 
-      module _ (f : b ≡ true) {w : List ℕ} (g : w ≡ text_at m row) {s : Spot} (h : s ≡ member t p w) where
-        pub field_value : {v : ℕ} → s ≡ At v → (j : ℕ) → type_at m n j ≡ type_of (type_at m n (row + 1)) → {x : Bool} → x ≡ go (type_at m n j) v
+      module _ (f : b ≡ true) {w : List ℕ} (g : w ≡ text_at m row) {s : Option ℕ} (h : s ≡ member t p w) where
+        pub field_value : {v : ℕ} → s ≡ Some v → (j : ℕ) → type_at m n j ≡ type_of (type_at m n (row + 1)) → {x : Bool} → x ≡ go (type_at m n j) v
             → x ≡ field_fits t go p (type_at m n row)
         unfolding field_fits on_value
         field_value {v} i j k d = d ∙ ap (λ (type : List Row). go type v) k ∙ rw (here, ← e, f, ← g, ← h, i)
 
-        pub field_default : s ≡ Nowhere → {x : Bool} → x ≡ has_default (row_at m row) → x ≡ field_fits t go p (type_at m n row)
+        pub field_default : s ≡ None → {x : Bool} → x ≡ has_default (row_at m row) → x ≡ field_fits t go p (type_at m n row)
         unfolding field_fits on_value
         field_default i d = d ∙ rw (here, ← e, f, ← g, ← h, i)
 

@@ -1,13 +1,12 @@
 -- When a value fits a type: a line for each kind, as Avro 1.12.0's table of field default values has them and document 02 says more closely.
 -- Assumes nothing.
-use Rattle.std.specs.Prelude.{ℕ, zero, suc, ◌^◌, Bool, true, false, not, cond, ◌&&◌, ◌||◌, List, [], ◌∷◌}
+use Rattle.std.specs.Prelude.{ℕ, zero, suc, ◌^◌, Bool, true, false, not, cond, ◌&&◌, ◌||◌, List, [], ◌∷◌, Option, Some, None}
 use Rattle.ground.specs.Bytes.{same}
 use Rattle.name.specs.Name.{every}
 use Rattle.view.specs.Elements.{elements}
 use Rattle.view.specs.Strings.{string_at}
-use Rattle.view.specs.Members.{Member, members_at, member}
-use Rattle.view.specs.declared.space.Spot.{Spot}
-use Rattle.view.specs.declared.space.Spot.TheVariants.{At, Nowhere}
+use Rattle.view.specs.Members.{members_at, member}
+use Rattle.view.specs.declared.members.Member.{Member}
 use Rattle.row.specs.Rows.{Row}
 use Rattle.row.specs.declared.kind.Kind.{Kind}
 use Rattle.row.specs.declared.kind.Kind.TheVariants.{Null, Boolean, Int, Long, Float, Double, Bytes, String, Reference, Array, Map, Union, Record, Enum, Fixed, Field, Symbol, Alias, FieldAlias}
@@ -18,9 +17,9 @@ use Rattle.resolve.specs.Rules.{some}
 use Rattle.fits.specs.Types.{parts_under, type_of, has_default}
 
 -- what a test says of the value that was found, or `none` where there is no value
-unfoldable pub on_value : (ℕ → Bool) → Bool → Spot → Bool
-on_value test none (At v) = test v
-on_value test none Nowhere = none
+unfoldable pub on_value : (ℕ → Bool) → Bool → Option ℕ → Bool
+on_value test none (Some v) = test v
+on_value test none None = none
 
 -- is the first row a symbol with this text?
 unfoldable pub is_symbol : List ℕ → List Row → Bool

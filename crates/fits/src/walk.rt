@@ -23,7 +23,7 @@ use resolve::is_kind;
 use row::Kind;
 use row::read::{depth_at, kind_number, string_of};
 use values::{is_array, is_object, under_key, under_word};
-use view::{Entry, Spot, first_element, first_member, next_element, next_member};
+use view::{Entry, first_element, first_member, next_element, next_member};
 
 // An array, each of whose elements fits the type at a row.
 #[cycle(any_array_field_fits_at_map_nested_one_plain_record_of_some_one)]
@@ -47,7 +47,7 @@ fn array(
     }
     let mut spot = first_element(text, at);
     loop {
-        let Spot::At(p) = spot else {
+        let Some(p) = spot else {
             return true;
         };
         if !fits_at(mem, n, text, ends, verdicts, found, left, items, p) {
@@ -82,7 +82,7 @@ fn map(
         let Entry::Of(key, value) = entry else {
             return true;
         };
-        let Spot::At(v) = under_key(text, ends, at, key) else {
+        let Some(v) = under_key(text, ends, at, key) else {
             return false;
         };
         if !fits_at(mem, n, text, ends, verdicts, found, left, values, v) {
@@ -112,7 +112,7 @@ fn field(
     if !is_kind(Kind::Field, kind_number(mem, row)) {
         return true;
     }
-    let Spot::At(v) = under_word(text, ends, at, string_of(mem, row)) else {
+    let Some(v) = under_word(text, ends, at, string_of(mem, row)) else {
         return has_default(mem, row);
     };
     let own = type_row(mem, n, row + 1);

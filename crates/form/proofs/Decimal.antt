@@ -1,5 +1,6 @@
 -- A decimal's note: one law for each way out of the code.
 -- Assumes nothing.
+use Rattle.std.specs.Prelude.{Option, Some, None}
 use mathlib.Core.Path.{◌≡◌, sym, ap, ◌∙◌}
 use mathlib.Core.Bool.{Bool, true, false, cond}
 use mathlib.Core.List.{List}
@@ -8,10 +9,6 @@ use lib.Dec.{ltb}
 use Rattle.ground.specs.Ascii.{ascii}
 use Rattle.ground.specs.Bytes.{same}
 use Rattle.decimals.specs.Limits.{limit_of}
-use Rattle.view.specs.declared.space.Spot.{Spot}
-use Rattle.view.specs.declared.space.Spot.TheVariants.{At, Nowhere}
-use Rattle.view.specs.declared.sizes.Size.{Size}
-use Rattle.view.specs.declared.sizes.Size.TheVariants.{Value, NoSize}
 use Rattle.view.specs.Strings.{string_at}
 use Rattle.view.specs.Size.{size_of}
 use Rattle.view.specs.declared.members.Members.{Members}
@@ -23,18 +20,18 @@ use Rattle.form.specs.Notes.{on_size, noted, exceeds, compared, with_scale, with
 
 -- a size literal's value, where a place has one
 module _ (t : List ℕ) (f : ℕ → Note) (other missing : Note) where
-  abbrev by : Spot → Note
+  abbrev by : Option ℕ → Note
   by s = on_spot s (λ q. on_size (size_of t q) f other) missing
 
-  by_none : {s : Spot} → s ≡ Nowhere → missing ≡ by s
+  by_none : {s : Option ℕ} → s ≡ None → missing ≡ by s
   by_none e = ap by (sym e)
 
-  module _ {s : Spot} {p : ℕ} (e : s ≡ At p) {z : Size} (g : z ≡ size_of t p) where
-    by_value : {v : ℕ} → z ≡ Value v → f v ≡ by s
-    by_value h = ap (λ (z : Size). on_size z f other) (sym h ∙ g) ∙ ap by (sym e)
+  module _ {s : Option ℕ} {p : ℕ} (e : s ≡ Some p) {z : Option ℕ} (g : z ≡ size_of t p) where
+    by_value : {v : ℕ} → z ≡ Some v → f v ≡ by s
+    by_value h = ap (λ (z : Option ℕ). on_size z f other) (sym h ∙ g) ∙ ap by (sym e)
 
-    by_other : z ≡ NoSize → other ≡ by s
-    by_other h = ap (λ (z : Size). on_size z f other) (sym h ∙ g) ∙ ap by (sym e)
+    by_other : z ≡ None → other ≡ by s
+    by_other h = ap (λ (z : Option ℕ). on_size z f other) (sym h ∙ g) ∙ ap by (sym e)
 
 -- what the plain type allows
 pub exceeds_bytes : {plain : Plain} (precision : ℕ) → plain ≡ Bytes → false ≡ exceeds plain precision
@@ -46,40 +43,40 @@ unfolding exceeds
 exceeds_fixed precision e h = ap (λ (x : ℕ). ltb x precision) h ∙ ap (λ (x : Plain). exceeds x precision) (sym e)
 
 module _ (t : List ℕ) (m : Members) where
-  module _ {s : Spot} (e : s ≡ as_text t m.logical_type) where
-    pub plain_type : s ≡ Nowhere → false ≡ is_decimal t m
+  module _ {s : Option ℕ} (e : s ≡ as_text t m.logical_type) where
+    pub plain_type : s ≡ None → false ≡ is_decimal t m
     unfolding is_decimal
-    plain_type h = ap (λ (s : Spot). on_spot s (λ q. same (string_at t q) (ascii "decimal")) false) (sym h ∙ e)
+    plain_type h = ap (λ (s : Option ℕ). on_spot s (λ q. same (string_at t q) (ascii "decimal")) false) (sym h ∙ e)
 
-    pub logical_type_lem : {p : ℕ} → s ≡ At p → {b : Bool} → b ≡ same (string_at t p) (ascii "decimal") → b ≡ is_decimal t m
+    pub logical_type_lem : {p : ℕ} → s ≡ Some p → {b : Bool} → b ≡ same (string_at t p) (ascii "decimal") → b ≡ is_decimal t m
     unfolding is_decimal
-    logical_type_lem h i = i ∙ ap (λ (s : Spot). on_spot s (λ q. same (string_at t q) (ascii "decimal")) false) (sym h ∙ e)
+    logical_type_lem h i = i ∙ ap (λ (s : Option ℕ). on_spot s (λ q. same (string_at t q) (ascii "decimal")) false) (sym h ∙ e)
 
 module _ (t : List ℕ) (m : Members) (plain : Plain) where
   module _ (precision : ℕ) where
-    pub scale_none : m.scale ≡ Nowhere → {r : Note} → r ≡ compared plain precision 0 → r ≡ with_scale t m plain precision
+    pub scale_none : m.scale ≡ None → {r : Note} → r ≡ compared plain precision 0 → r ≡ with_scale t m plain precision
     unfolding with_scale
     scale_none e h = h ∙ by_none t (compared plain precision) (noted 4) (compared plain precision 0) e
 
-    module _ {p : ℕ} (e : m.scale ≡ At p) {z : Size} (g : z ≡ size_of t p) where
-      pub scale_value : {v : ℕ} → z ≡ Value v → {r : Note} → r ≡ compared plain precision v → r ≡ with_scale t m plain precision
+    module _ {p : ℕ} (e : m.scale ≡ Some p) {z : Option ℕ} (g : z ≡ size_of t p) where
+      pub scale_value : {v : ℕ} → z ≡ Some v → {r : Note} → r ≡ compared plain precision v → r ≡ with_scale t m plain precision
       unfolding with_scale
       scale_value i h = h ∙ by_value t (compared plain precision) (noted 4) (compared plain precision 0) e g i
 
-      pub scale_other : z ≡ NoSize → {r : Note} → r ≡ noted 4 → r ≡ with_scale t m plain precision
+      pub scale_other : z ≡ None → {r : Note} → r ≡ noted 4 → r ≡ with_scale t m plain precision
       unfolding with_scale
       scale_other i h = h ∙ by_other t (compared plain precision) (noted 4) (compared plain precision 0) e g i
 
-  pub precision_none : m.precision ≡ Nowhere → {r : Note} → r ≡ noted 2 → r ≡ with_precision t m plain
+  pub precision_none : m.precision ≡ None → {r : Note} → r ≡ noted 2 → r ≡ with_precision t m plain
   unfolding with_precision
   precision_none e h = h ∙ by_none t (with_scale t m plain) (noted 3) (noted 2) e
 
-  module _ {p : ℕ} (e : m.precision ≡ At p) {z : Size} (g : z ≡ size_of t p) where
-    pub precision_value : {v : ℕ} → z ≡ Value v → {r : Note} → r ≡ with_scale t m plain v → r ≡ with_precision t m plain
+  module _ {p : ℕ} (e : m.precision ≡ Some p) {z : Option ℕ} (g : z ≡ size_of t p) where
+    pub precision_value : {v : ℕ} → z ≡ Some v → {r : Note} → r ≡ with_scale t m plain v → r ≡ with_precision t m plain
     unfolding with_precision
     precision_value i h = h ∙ by_value t (with_scale t m plain) (noted 3) (noted 2) e g i
 
-    pub precision_other : z ≡ NoSize → {r : Note} → r ≡ noted 3 → r ≡ with_precision t m plain
+    pub precision_other : z ≡ None → {r : Note} → r ≡ noted 3 → r ≡ with_precision t m plain
     unfolding with_precision
     precision_other i h = h ∙ by_other t (with_scale t m plain) (noted 3) (noted 2) e g i
 

@@ -1,5 +1,6 @@
 -- What a schema at a place is: one law for each way out of the loop that follows nested schemas, and its turn.
 -- Assumes nothing.
+use Rattle.std.specs.Prelude.{Option, Some, None}
 use mathlib.Core.Path.{◌≡◌, refl, sym, ap, ◌∙◌}
 use mathlib.Core.Bool.{Bool, true, false, cond}
 use mathlib.Core.List.{List}
@@ -9,8 +10,6 @@ use Rattle.answer.specs.declared.refusal.Why.TheVariants.{NotASchema, TypeMissin
 use Rattle.ground.specs.Ascii.{ascii}
 use Rattle.ground.specs.Bytes.{same}
 use Rattle.ground.proofs.Laws.{never}
-use Rattle.view.specs.declared.space.Spot.{Spot}
-use Rattle.view.specs.declared.space.Spot.TheVariants.{At, Nowhere}
 use Rattle.view.specs.declared.shape.Shape.{Shape}
 use Rattle.view.specs.declared.shape.Shape.TheVariants.{Text, Number, Object, Array, Word, Nothing}
 use Rattle.view.specs.Values.{shape_at}
@@ -34,7 +33,7 @@ object_is Nothing e = never e
 
 -- what is no object
 by_other : (nested : ℕ → Form) (t : List ℕ) (p : ℕ) (s : Shape) → is_object s ≡ false
-    → form_by nested t p s ≡ cond (is_text s) (form.Word p Nowhere) (cond (is_array s) (form.UnionOf p) (form.Wrong (fault NotASchema p)))
+    → form_by nested t p s ≡ cond (is_text s) (form.Word p None) (cond (is_array s) (form.UnionOf p) (form.Wrong (fault NotASchema p)))
 unfolding form_by
 by_other nested t p Text e = refl
 by_other nested t p Number e = refl
@@ -43,30 +42,30 @@ by_other nested t p Array e = refl
 by_other nested t p Word e = refl
 by_other nested t p Nothing e = refl
 
-other_object : (p : ℕ) (a b : Bool) → object_of (cond a (form.Word p Nowhere) (cond b (form.UnionOf p) (form.Wrong (fault NotASchema p)))) ≡ Nowhere
+other_object : (p : ℕ) (a b : Bool) → object_of (cond a (form.Word p None) (cond b (form.UnionOf p) (form.Wrong (fault NotASchema p)))) ≡ None
 other_object p true b = refl
 other_object p false true = refl
 other_object p false false = refl
 
 -- a form that goes by no object has no members, and one that goes by an object its
-found_none : (t : List ℕ) (f : Form) → object_of f ≡ Nowhere → found f no_members ≡ found_of t f
+found_none : (t : List ℕ) (f : Form) → object_of f ≡ None → found f no_members ≡ found_of t f
 unfolding found_of
-found_none t f e = ap (λ (s : Spot). found f (on_spot s (members_of t) no_members)) (sym e)
+found_none t f e = ap (λ (s : Option ℕ). found f (on_spot s (members_of t) no_members)) (sym e)
 
-found_some : (t : List ℕ) (f : Form) (p : ℕ) → object_of f ≡ At p → found f (members_of t p) ≡ found_of t f
+found_some : (t : List ℕ) (f : Form) (p : ℕ) → object_of f ≡ Some p → found f (members_of t p) ≡ found_of t f
 unfolding found_of
-found_some t f p e = ap (λ (s : Spot). found f (on_spot s (members_of t) no_members)) (sym e)
+found_some t f p e = ap (λ (s : Option ℕ). found f (on_spot s (members_of t) no_members)) (sym e)
 
 -- an object goes by itself, whatever its `type`
-pub object_own : (w : List ℕ) (p q : ℕ) → object_of (object_form w p q) ≡ At p
+pub object_own : (w : List ℕ) (p q : ℕ) → object_of (object_form w p q) ≡ Some p
 unfolding object_form
 object_own w p q =
     go (same w (ascii "record")) (same w (ascii "enum")) (same w (ascii "fixed")) (same w (ascii "array")) (same w (ascii "map"))
   where
     go : (a b c d e : Bool)
         → object_of
-        (cond a (form.RecordOf p) (cond b (form.EnumOf p) (cond c (form.FixedOf p) (cond d (form.ArrayOf p) (cond e (form.MapOf p) (form.Word q (At p)))))))
-        ≡ At p
+        (cond a (form.RecordOf p) (cond b (form.EnumOf p) (cond c (form.FixedOf p) (cond d (form.ArrayOf p) (cond e (form.MapOf p) (form.Word q (Some p)))))))
+        ≡ Some p
     go true b c d e = refl
     go false true c d e = refl
     go false false true d e = refl
@@ -91,7 +90,7 @@ module _ (t : List ℕ) (n p : ℕ) {x : Form} (inv : form_within n t p ≡ x) w
 
   module _ (h : 0 < n) {b : Bool} (f : b ≡ is_object (shape_at t p)) where
     pub find_other : b ≡ false → {r : Found}
-        → r ≡ found (cond (is_text (shape_at t p)) (form.Word p Nowhere) (cond (is_array (shape_at t p)) (form.UnionOf p) (form.Wrong (fault NotASchema p)))) no_members
+        → r ≡ found (cond (is_text (shape_at t p)) (form.Word p None) (cond (is_array (shape_at t p)) (form.UnionOf p) (form.Wrong (fault NotASchema p)))) no_members
         → r ≡ found_of t x
     find_other g e =
         e ∙ found_none t _ (other_object p (is_text (shape_at t p)) (is_array (shape_at t p)))
@@ -101,18 +100,18 @@ module _ (t : List ℕ) (n p : ℕ) {x : Form} (inv : form_within n t p ≡ x) w
       by_members : form_by (form_within (n - 1) t) t p Object ≡ x
       by_members = ap (form_by (form_within (n - 1) t) t p) (sym (object_is (shape_at t p) (sym f ∙ g))) ∙ sym (within_more n t p h) ∙ inv
 
-      typed : {s : Spot} → m.typed ≡ s
+      typed : {s : Option ℕ} → m.typed ≡ s
           → on_spot s (λ q. cond (is_text (shape_at t q)) (object_form (string_at t q) p q) (form_within (n - 1) t q)) (form.Wrong (fault TypeMissing p)) ≡ x
       unfolding form_by
       typed e =
-          ap (λ (s : Spot). on_spot s (λ q. cond (is_text (shape_at t q)) (object_form (string_at t q) p q) (form_within (n - 1) t q)) (form.Wrong (fault TypeMissing p)))
+          ap (λ (s : Option ℕ). on_spot s (λ q. cond (is_text (shape_at t q)) (object_form (string_at t q) p q) (form_within (n - 1) t q)) (form.Wrong (fault TypeMissing p)))
           (sym e ∙ ap (λ (m : Members). m.typed) k)
           ∙ by_members
 
-      pub find_missing : m.typed ≡ Nowhere → {r : Found} → r ≡ found (form.Wrong (fault TypeMissing p)) no_members → r ≡ found_of t x
+      pub find_missing : m.typed ≡ None → {r : Found} → r ≡ found (form.Wrong (fault TypeMissing p)) no_members → r ≡ found_of t x
       find_missing e i = i ∙ found_none t (form.Wrong (fault TypeMissing p)) refl ∙ ap (found_of t) (typed e)
 
-      module _ {q : ℕ} (e : m.typed ≡ At q) {d : Bool} (i : d ≡ is_text (shape_at t q)) where
+      module _ {q : ℕ} (e : m.typed ≡ Some q) {d : Bool} (i : d ≡ is_text (shape_at t q)) where
         pub find_object : d ≡ true → {o : Form} → o ≡ object_form (string_at t q) p q → found o m ≡ found_of t x
         find_object j u =
             let y : object_form (string_at t q) p q ≡ x = rw (← i, j) at (typed e) in

@@ -1,5 +1,6 @@
 -- Words by their length: those of another length need not be compared with.
 -- Assumes nothing.
+use Rattle.std.specs.Prelude.{Some}
 use mathlib.Core.Path.{◌≡◌}
 use mathlib.Core.Bool.{false, cond}
 use mathlib.Core.List.{List}
@@ -10,7 +11,6 @@ use Rattle.ground.specs.Ascii.{ascii}
 use Rattle.ground.specs.Bytes.{same}
 use Rattle.ground.proofs.Laws.{same_unlike}
 use Rattle.row.specs.declared.kind.Kind.TheVariants.{Null, Boolean, Int, Long, Float, Double, Bytes, String, Reference}
-use Rattle.view.specs.declared.space.Spot.TheVariants.{At}
 use Rattle.form.specs.declared.forms.Form.TheVariants as form
 use Rattle.form.specs.Forms.{word_kind, object_form}
 
@@ -77,7 +77,7 @@ module _ (w : List ℕ) where
   no_long : 16 < length w → (x : List ℕ) → length x ≤ 16 → same w x ≡ false
   no_long h x k = same_unlike w x (λ e. omega arith)
 
-  pub form_of_long : (p q : ℕ) → 16 < length w → object_form w p q ≡ form.Word q (At p)
+  pub form_of_long : (p q : ℕ) → 16 < length w → object_form w p q ≡ form.Word q (Some p)
   unfolding object_form
   form_of_long p q h =
       let a = no_long h (ascii "record") (omega arith) in

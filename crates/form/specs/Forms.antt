@@ -1,14 +1,12 @@
 -- What a schema at a place is.
 -- Assumes nothing.
-use Rattle.std.specs.Prelude.{ℕ, zero, suc, ◌+◌, cond, List}
+use Rattle.std.specs.Prelude.{ℕ, zero, suc, ◌+◌, cond, List, Option, Some, None}
 use Rattle.answer.specs.declared.refusal.Why.TheVariants.{NotASchema, TypeMissing, NestedTooDeep}
 use Rattle.ground.specs.Ascii.{ascii}
 use Rattle.ground.specs.Bytes.{same}
 use Rattle.json_scan.specs.Json.{deepest}
 use Rattle.row.specs.declared.kind.Kind.{Kind}
 use Rattle.row.specs.declared.kind.Kind.TheVariants.{Null, Boolean, Int, Long, Float, Double, Bytes, String, Reference}
-use Rattle.view.specs.declared.space.Spot.{Spot}
-use Rattle.view.specs.declared.space.Spot.TheVariants.{At, Nowhere}
 use Rattle.view.specs.declared.shape.Shape.{Shape}
 use Rattle.view.specs.declared.shape.Shape.TheVariants.{Text, Number, Object, Array, Word, Nothing}
 use Rattle.view.specs.Values.{shape_at}
@@ -40,11 +38,11 @@ object_form w p q =
     (cond (same w (ascii "enum")) (form.EnumOf p)
     (cond (same w (ascii "fixed")) (form.FixedOf p)
     (cond (same w (ascii "array")) (form.ArrayOf p)
-    (cond (same w (ascii "map")) (form.MapOf p) (form.Word q (At p))))))
+    (cond (same w (ascii "map")) (form.MapOf p) (form.Word q (Some p))))))
 
 -- a string; an object by its `type`; a union. A `type` that is no string is a schema nested in it, which `nested` reads
 unfoldable pub form_by : (ℕ → Form) → List ℕ → ℕ → Shape → Form
-form_by nested t p Text = form.Word p Nowhere
+form_by nested t p Text = form.Word p None
 form_by nested t p Object =
     on_spot (members_of t p).typed (λ q. cond (is_text (shape_at t q)) (object_form (string_at t q) p q) (nested q))
     (form.Wrong (fault TypeMissing p))
@@ -66,33 +64,33 @@ abbrev pub form_of : List ℕ → ℕ → Form
 form_of t p = form_within most_nested t p
 
 -- the object that a form goes by, if there is one
-abbrev pub object_of : Form → Spot
+abbrev pub object_of : Form → Option ℕ
 object_of (form.Word q o) = o
-object_of (form.ArrayOf p) = At p
-object_of (form.MapOf p) = At p
-object_of (form.UnionOf p) = Nowhere
-object_of (form.RecordOf p) = At p
-object_of (form.EnumOf p) = At p
-object_of (form.FixedOf p) = At p
-object_of (form.Wrong f) = Nowhere
+object_of (form.ArrayOf p) = Some p
+object_of (form.MapOf p) = Some p
+object_of (form.UnionOf p) = None
+object_of (form.RecordOf p) = Some p
+object_of (form.EnumOf p) = Some p
+object_of (form.FixedOf p) = Some p
+object_of (form.Wrong f) = None
 
 -- ---- a form with the members of its object
 
 abbrev pub no_members : Members
 no_members = record {
-  typed = Nowhere;
-  name = Nowhere;
-  namespace = Nowhere;
-  aliases = Nowhere;
-  fields = Nowhere;
-  symbols = Nowhere;
-  default = Nowhere;
-  size = Nowhere;
-  items = Nowhere;
-  values = Nowhere;
-  logical_type = Nowhere;
-  precision = Nowhere;
-  scale = Nowhere;
+  typed = None;
+  name = None;
+  namespace = None;
+  aliases = None;
+  fields = None;
+  symbols = None;
+  default = None;
+  size = None;
+  items = None;
+  values = None;
+  logical_type = None;
+  precision = None;
+  scale = None;
 }
 
 abbrev pub found : Form → Members → Found

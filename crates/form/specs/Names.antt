@@ -1,6 +1,6 @@
 -- The strings of a declaration that have to be names: their full names, and the checks 6, 7, 8, 9.
 -- Assumes nothing.
-use Rattle.std.specs.Prelude.{ℕ, Bool, not, cond, List, length}
+use Rattle.std.specs.Prelude.{ℕ, Bool, not, cond, List, length, Result, Ok, Err}
 use Rattle.answer.specs.declared.refusal.Fault.{Fault}
 use Rattle.answer.specs.declared.refusal.Why.TheVariants.{NotAName, Reserved, StringTooLong}
 use Rattle.ground.specs.Bytes.{store}
@@ -9,11 +9,7 @@ use Rattle.name.specs.Full.{is_short}
 use Rattle.view.specs.Strings.{string_at}
 use Rattle.breach.specs.Breach.{breach_at}
 use Rattle.view.specs.declared.members.Members.{Members}
-use Rattle.form.specs.declared.check.Check.{Check}
-use Rattle.form.specs.declared.check.Check.TheVariants.{Fine, Bad}
-use Rattle.form.specs.declared.names.Named.{Named}
-use Rattle.form.specs.declared.names.Named.TheVariants.{Kept, Wrong}
-use Rattle.form.specs.Checks.{fault, must, ◌then◌}
+use Rattle.form.specs.Checks.{fault, must, ◌then◌, Check}
 use Rattle.form.specs.Spots.{on_spot, as_text}
 
 -- 7 stands where the string at q breaks the rule: at the first character after which no string that keeps it can follow, or at the
@@ -61,8 +57,8 @@ defined_at t enclosing m q = full_at t (namespace_of t enclosing m) q
 -- the `namespace` member is not looked at where the name has a dot
 unfoldable pub namespace_check : List ℕ → Members → ℕ → Check
 namespace_check t m q =
-    cond (has_dot (string_at t q)) Fine
-    (on_spot (as_text t m.namespace) (λ w. must_keep is_namespace t w) Fine)
+    cond (has_dot (string_at t q)) (Ok tt)
+    (on_spot (as_text t m.namespace) (λ w. must_keep is_namespace t w) (Ok tt))
 
 unfoldable pub definition_check : List ℕ → List ℕ → Members → ℕ → Check
 definition_check t enclosing m q =
@@ -80,11 +76,11 @@ spaced_check t w s q =
 
 -- ---- what is answered of a full name with its check, and what the buffer then holds that the name is kept in
 
-abbrev pub named : Check → List ℕ → Named
-named Fine full = Kept (length full)
-named (Bad f) full = Wrong f
+abbrev pub named : Check → List ℕ → Result ℕ Fault
+named (Ok _) full = Ok (length full)
+named (Err f) full = Err f
 
 -- from the buffer's first byte on; as it was where the check finds a fault
 abbrev pub kept_in : List ℕ → Check → List ℕ → List ℕ
-kept_in buffer Fine full = store buffer 0 full
-kept_in buffer (Bad f) full = buffer
+kept_in buffer (Ok _) full = store buffer 0 full
+kept_in buffer (Err f) full = buffer

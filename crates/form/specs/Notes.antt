@@ -1,12 +1,10 @@
 -- A decimal's note: 1 holds, 2 precision missing, 3 precision not a size literal, 4 scale not one, 5 precision 0, 6 precision below scale, 7 precision
 -- above the limit of a fixed's size.
 -- Assumes nothing.
-use Rattle.std.specs.Prelude.{ℕ, Bool, false, cond, List, eqb, ltb}
+use Rattle.std.specs.Prelude.{ℕ, Bool, false, cond, List, eqb, ltb, Option, Some, None}
 use Rattle.ground.specs.Ascii.{ascii}
 use Rattle.ground.specs.Bytes.{same}
 use Rattle.decimals.specs.Limits.{limit_of}
-use Rattle.view.specs.declared.sizes.Size.{Size}
-use Rattle.view.specs.declared.sizes.Size.TheVariants.{Value, NoSize}
 use Rattle.view.specs.Strings.{string_at}
 use Rattle.view.specs.Size.{size_of}
 use Rattle.view.specs.declared.members.Members.{Members}
@@ -16,9 +14,9 @@ use Rattle.form.specs.declared.note.Plain.TheVariants.{Bytes, Fixed}
 use Rattle.form.specs.Spots.{on_spot, as_text}
 
 -- what is done with a size literal's value, and what where it is none
-abbrev pub on_size : {A : Type 0} → Size → (ℕ → A) → A → A
-on_size (Value v) f none = f v
-on_size NoSize f none = none
+abbrev pub on_size : {A : Type 0} → Option ℕ → (ℕ → A) → A → A
+on_size (Some v) f none = f v
+on_size None f none = none
 
 -- precision and scale are kept where the note is 1
 abbrev pub noted : ℕ → Note

@@ -1,17 +1,15 @@
 -- Places of values, and what a declaration takes them for: a string, an array, an array of strings, the objects of an array.
 -- Assumes nothing.
-use Rattle.std.specs.Prelude.{ℕ, Bool, true, false, cond, ◌&&◌, List, [], ◌∷◌}
-use Rattle.view.specs.declared.space.Spot.{Spot}
-use Rattle.view.specs.declared.space.Spot.TheVariants.{At, Nowhere}
+use Rattle.std.specs.Prelude.{ℕ, Bool, true, false, cond, ◌&&◌, List, [], ◌∷◌, Option, Some, None}
 use Rattle.view.specs.declared.shape.Shape.{Shape}
 use Rattle.view.specs.declared.shape.Shape.TheVariants.{Text, Number, Object, Array, Word, Nothing}
 use Rattle.view.specs.Values.{shape_at}
 use Rattle.view.specs.Elements.{elements}
 
 -- what is done with a place, and what where there is none
-abbrev pub on_spot : {A : Type 0} → Spot → (ℕ → A) → A → A
-on_spot (At p) f none = f p
-on_spot Nowhere f none = none
+abbrev pub on_spot : {A : Type 0} → Option ℕ → (ℕ → A) → A → A
+on_spot (Some p) f none = f p
+on_spot None f none = none
 
 abbrev pub is_text : Shape → Bool
 is_text Text = true
@@ -38,18 +36,18 @@ is_array Word = false
 is_array Nothing = false
 
 -- a place, if a string stands there; if an array does
-unfoldable pub as_text : List ℕ → Spot → Spot
-as_text t s = on_spot s (λ p. cond (is_text (shape_at t p)) s Nowhere) Nowhere
+unfoldable pub as_text : List ℕ → Option ℕ → Option ℕ
+as_text t s = on_spot s (λ p. cond (is_text (shape_at t p)) s None) None
 
-unfoldable pub as_array : List ℕ → Spot → Spot
-as_array t s = on_spot s (λ p. cond (is_array (shape_at t p)) s Nowhere) Nowhere
+unfoldable pub as_array : List ℕ → Option ℕ → Option ℕ
+as_array t s = on_spot s (λ p. cond (is_array (shape_at t p)) s None) None
 
 unfoldable pub all_texts : List ℕ → List ℕ → Bool
 all_texts t [] = true
 all_texts t (p ∷ ps) = is_text (shape_at t p) && all_texts t ps
 
 -- the strings of `aliases`; what is not an array of strings counts as absent
-unfoldable pub aliases_in : List ℕ → Spot → List ℕ
+unfoldable pub aliases_in : List ℕ → Option ℕ → List ℕ
 aliases_in t s = on_spot (as_array t s) (λ p. cond (all_texts t (elements t p)) (elements t p) []) []
 
 unfoldable pub objects_among : List ℕ → List ℕ → List ℕ

@@ -4,18 +4,14 @@ ghost use Rattle.form.specs.Checks.{fault, must};
 
 use answer::{Fault, Why};
 
-#[derive(Clone, Copy)]
-pub enum Check {
-    Fine,
-    Bad(Fault),
-}
+pub type Check = Result<(), Fault>;
 
 // What must hold, and the fault where it does not.
 pub fn must(holds: bool, why: Why, at: usize) -> Check
     ensures { result ≡ must holds (fault why at) }
 {
     if holds {
-        return Check::Fine;
+        return Ok(());
     }
-    Check::Bad(Fault { why, at })
+    Err(Fault { why, at })
 }

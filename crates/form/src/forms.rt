@@ -1,9 +1,8 @@
 // What a schema at a place is.
-ghost use Rattle.std.specs.Prelude.{◌≡◌, cond};
+ghost use Rattle.std.specs.Prelude.{◌≡◌, cond, None};
 ghost use Rattle.answer.specs.declared.refusal.Why.TheVariants.{NotASchema};
 ghost use Rattle.ground.specs.Bytes.{same};
 ghost use Rattle.row.specs.declared.kind.Kind.TheVariants.{Reference};
-ghost use Rattle.view.specs.declared.space.Spot.TheVariants.{Nowhere};
 ghost use Rattle.view.specs.Values.{shape_at};
 ghost use Rattle.view.specs.Strings.{string_at};
 ghost use Rattle.view.specs.Known.{Known};
@@ -17,7 +16,7 @@ use answer::{Fault, Why};
 use ground::same;
 use json_scan::Scan;
 use row::Kind;
-use view::{Members, Spot, literal, members_at, string_copy};
+use view::{Members, literal, members_at, string_copy};
 
 // A string, with the object whose `type` it is, if there is one; an array, map, record, enum or fixed by its object; a union by its bracket.
 #[derive(Clone, Copy)]
@@ -112,7 +111,7 @@ fn form_of(word: &[u8], at: usize, typed: usize) -> Form
     if same(word, b"map") {
         return Form::MapOf(at);
     }
-    Form::Word(typed, Spot::At(at))
+    Form::Word(typed, Some(at))
 }
 
 // The form of the object at `at`, whose `type` is the string at `typed`.
@@ -129,7 +128,7 @@ fn object_form(text: &[u8], ends: &[u16], at: usize, typed: usize) -> Form
     let mut word: [u8; 16] = [0; 16];
     let n = string_copy(text, ends, typed, &mut word);
     if 16 < n {
-        return Form::Word(typed, Spot::At(at));
+        return Form::Word(typed, Some(at));
     }
     form_of(&word[0..n], at, typed)
 }
@@ -141,19 +140,19 @@ fn bare(form: Form) -> Found
     Found {
         form,
         members: Members {
-            typed: Spot::Nowhere,
-            name: Spot::Nowhere,
-            namespace: Spot::Nowhere,
-            aliases: Spot::Nowhere,
-            fields: Spot::Nowhere,
-            symbols: Spot::Nowhere,
-            default: Spot::Nowhere,
-            size: Spot::Nowhere,
-            items: Spot::Nowhere,
-            values: Spot::Nowhere,
-            logical_type: Spot::Nowhere,
-            precision: Spot::Nowhere,
-            scale: Spot::Nowhere,
+            typed: None,
+            name: None,
+            namespace: None,
+            aliases: None,
+            fields: None,
+            symbols: None,
+            default: None,
+            size: None,
+            items: None,
+            values: None,
+            logical_type: None,
+            precision: None,
+            scale: None,
         },
     }
 }
@@ -166,10 +165,10 @@ fn wrong(why: Why, at: usize) -> Found
 
 // The form of what is no object.
 fn other_form(text: &[u8], at: usize) -> Found
-    ensures { result ≡ found (cond (is_text (shape_at text.now at)) (form.Word at Nowhere) (cond (is_array (shape_at text.now at)) (form.UnionOf at) (form.Wrong (fault NotASchema at)))) no_members }
+    ensures { result ≡ found (cond (is_text (shape_at text.now at)) (form.Word at None) (cond (is_array (shape_at text.now at)) (form.UnionOf at) (form.Wrong (fault NotASchema at)))) no_members }
 {
     if is_text(text, at) {
-        return bare(Form::Word(at, Spot::Nowhere));
+        return bare(Form::Word(at, None));
     }
     if is_array(text, at) {
         return bare(Form::UnionOf(at));
@@ -190,7 +189,7 @@ pub fn find(text: &[u8], ends: &[u16], at: usize) -> Found
         }
         let members = members_at(text, ends, p);
         let typed = members.typed;
-        let Spot::At(q) = typed else {
+        let Some(q) = typed else {
             return wrong(Why::TypeMissing, p);
         };
         if is_text(text, q) {

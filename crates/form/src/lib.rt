@@ -9,6 +9,6 @@ pub mod spots;
 
 pub use check::{Check, must};
 pub use forms::{Form, Found, find, word_kind};
-pub use names::{Named, alias, definition, reference, simple_check};
+pub use names::{alias, definition, reference, simple_check};
 pub use note::{Note, Plain, decimal_note};
 pub use spots::{all_texts, as_array, as_text, first_alias, is_object, is_text};

@@ -15,14 +15,7 @@ use breach::{name_breach, namespace_breach, simple_breach};
 use ground::copy;
 use json_scan::Scan;
 use name::{Full, full_name, has_dot, is_name, is_namespace, is_reserved, is_simple};
-use view::{Members, Spot, literal, string_copy};
-
-// What became of a full name: its length, it being kept, or the fault.
-#[derive(Clone, Copy)]
-pub enum Named {
-    Kept(usize),
-    Wrong(Fault),
-}
+use view::{Members, literal, string_copy};
 
 // 7, and where the string at `at` breaks the rule of simple names.
 fn not_simple(text: &[u8], at: usize) -> Fault
@@ -59,7 +52,7 @@ fn simple(text: &[u8], written: &[u8], at: usize) -> Check
     ensures { result ≡ must (is_simple written.now) (not_a_name is_simple text.now at) then kept written.now at }
 {
     if !is_simple(written) {
-        return Check::Bad(not_simple(text, at));
+        return Err(not_simple(text, at));
     }
     must(written.len() <= Full::LONGEST, Why::StringTooLong, at)
 }
@@ -81,12 +74,12 @@ pub fn simple_check(text: &[u8], ends: &[u16], at: usize, word: &mut [u8; Scan::
 }
 
 // The full name of what is written at `at`, in a namespace: 9.
-fn qualified(namespace: &[u8], written: &[u8], at: usize, full: &mut [u8; Full::LONGEST]) -> Named
+fn qualified(namespace: &[u8], written: &[u8], at: usize, full: &mut [u8; Full::LONGEST]) -> Result<usize, Fault>
     ensures { (result ≡ named (kept (full_name namespace.now written.now) at) (full_name namespace.now written.now)) × (full.new ≡ kept_in full.old (kept (full_name namespace.now written.now) at) (full_name namespace.now written.now)) }
 {
     match full_name(namespace, written, full) {
-        Full::Fits(n) => Named::Kept(n),
-        Full::TooLong => Named::Wrong(Fault {
+        Some(n) => Ok(n),
+        None => Err(Fault {
             why: Why::StringTooLong,
             at,
         }),
@@ -94,11 +87,11 @@ fn qualified(namespace: &[u8], written: &[u8], at: usize, full: &mut [u8; Full::
 }
 
 // The same of a name that is given to something: 8, 9. The last part of what is written is that of the full name.
-fn given(namespace: &[u8], written: &[u8], at: usize, full: &mut [u8; Full::LONGEST]) -> Named
+fn given(namespace: &[u8], written: &[u8], at: usize, full: &mut [u8; Full::LONGEST]) -> Result<usize, Fault>
     ensures { (result ≡ named (unreserved (full_name namespace.now written.now) at then kept (full_name namespace.now written.now) at) (full_name namespace.now written.now)) × (full.new ≡ kept_in full.old (unreserved (full_name namespace.now written.now) at then kept (full_name namespace.now written.now) at) (full_name namespace.now written.now)) }
 {
     if is_reserved(written) {
-        return Named::Wrong(Fault {
+        return Err(Fault {
             why: Why::Reserved,
             at,
         });
@@ -114,14 +107,14 @@ pub fn reference(
     at: usize,
     word: &mut [u8; Scan::TEXT],
     full: &mut [u8; Full::LONGEST],
-) -> Named
+) -> Result<usize, Fault>
     requires { (length text.now ≤ longest) × Known text.now ends.now }
     ensures { (result ≡ named (reference_check text.now namespace.now at) (full_at text.now namespace.now at)) × (full.new ≡ kept_in full.old (reference_check text.now namespace.now at) (full_at text.now namespace.now at)) }
 {
     let n = string_copy(text, ends, at, word);
     let all = &word[..];
     if !is_name(&all[0..n]) {
-        return Named::Wrong(not_a_name(text, at));
+        return Err(not_a_name(text, at));
     }
     qualified(namespace, &all[0..n], at, full)
 }
@@ -134,14 +127,14 @@ pub fn alias(
     at: usize,
     word: &mut [u8; Scan::TEXT],
     full: &mut [u8; Full::LONGEST],
-) -> Named
+) -> Result<usize, Fault>
     requires { (length text.now ≤ longest) × Known text.now ends.now }
     ensures { (result ≡ named (alias_check text.now namespace.now at) (full_at text.now namespace.now at)) × (full.new ≡ kept_in full.old (alias_check text.now namespace.now at) (full_at text.now namespace.now at)) }
 {
     let n = string_copy(text, ends, at, word);
     let all = &word[..];
     if !is_name(&all[0..n]) {
-        return Named::Wrong(not_a_name(text, at));
+        return Err(not_a_name(text, at));
     }
     given(namespace, &all[0..n], at, full)
 }
@@ -156,7 +149,7 @@ fn in_namespace(
     at: usize,
     word: &mut [u8; Scan::TEXT],
     full: &mut [u8; Full::LONGEST],
-) -> Named
+) -> Result<usize, Fault>
     requires { (length text.now ≤ longest) × Known text.now ends.now × (n ≤ longest) × (has_dot (part word.old 0 n) ≡ false) }
     ensures { (result ≡ named (spaced_check text.now space (part word.old 0 n) at) (full_name (string_at text.now space) (part word.old 0 n))) × (full.new ≡ kept_in full.old (spaced_check text.now space (part word.old 0 n) at) (full_name (string_at text.now space) (part word.old 0 n))) }
 {
@@ -167,16 +160,16 @@ fn in_namespace(
     let k = string_copy(text, ends, space, word);
     let namespace = &word[..];
     if !is_namespace(&namespace[0..k]) {
-        return Named::Wrong(not_a_namespace(text, space));
+        return Err(not_a_namespace(text, space));
     }
     if reserved {
-        return Named::Wrong(Fault {
+        return Err(Fault {
             why: Why::Reserved,
             at,
         });
     }
     if Full::LONGEST < n {
-        return Named::Wrong(Fault {
+        return Err(Fault {
             why: Why::StringTooLong,
             at,
         });
@@ -193,20 +186,20 @@ pub fn definition(
     at: usize,
     word: &mut [u8; Scan::TEXT],
     full: &mut [u8; Full::LONGEST],
-) -> Named
+) -> Result<usize, Fault>
     requires { (length text.now ≤ longest) × Known text.now ends.now }
     ensures { (result ≡ named (definition_check text.now enclosing.now members at) (defined_at text.now enclosing.now members at)) × (full.new ≡ kept_in full.old (definition_check text.now enclosing.now members at) (defined_at text.now enclosing.now members at)) }
 {
     let n = string_copy(text, ends, at, word);
     let all = &word[..];
     if !is_name(&all[0..n]) {
-        return Named::Wrong(not_a_name(text, at));
+        return Err(not_a_name(text, at));
     }
     if has_dot(&all[0..n]) {
         return given(enclosing, &all[0..n], at, full);
     }
     let namespace = members.namespace;
-    let Spot::At(q) = as_text(text, namespace) else {
+    let Some(q) = as_text(text, namespace) else {
         return given(enclosing, &all[0..n], at, full);
     };
     in_namespace(text, ends, q, n, at, word, full)

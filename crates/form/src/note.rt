@@ -5,7 +5,7 @@ ghost use Rattle.view.specs.Known.{Known};
 
 use super::spots::as_text;
 use decimals::limit;
-use view::{Members, Size, Spot, size_literal, string_is};
+use view::{Members, size_literal, string_is};
 
 // The note, 0 where there is no decimal; precision and scale where it is 1.
 #[derive(Clone, Copy)]
@@ -64,12 +64,12 @@ fn with_scale(text: &[u8], members: Members, plain: Plain, precision: u64) -> No
     ensures { result ≡ with_scale text.now members plain precision }
 {
     let spot = members.scale;
-    let Spot::At(p) = spot else {
+    let Some(p) = spot else {
         return compared(plain, precision, 0);
     };
     match size_literal(text, p) {
-        Size::Value(scale) => compared(plain, precision, scale),
-        Size::NoSize => noted(4),
+        Some(scale) => compared(plain, precision, scale),
+        None => noted(4),
     }
 }
 
@@ -77,12 +77,12 @@ fn with_precision(text: &[u8], members: Members, plain: Plain) -> Note
     ensures { result ≡ with_precision text.now members plain }
 {
     let spot = members.precision;
-    let Spot::At(p) = spot else {
+    let Some(p) = spot else {
         return noted(2);
     };
     match size_literal(text, p) {
-        Size::Value(precision) => with_scale(text, members, plain, precision),
-        Size::NoSize => noted(3),
+        Some(precision) => with_scale(text, members, plain, precision),
+        None => noted(3),
     }
 }
 
@@ -91,7 +91,7 @@ fn is_decimal(text: &[u8], ends: &[u16], members: Members) -> bool
     ensures { result ≡ is_decimal text.now members }
 {
     let spot = members.logical_type;
-    let Spot::At(p) = as_text(text, spot) else {
+    let Some(p) = as_text(text, spot) else {
         return false;
     };
     string_is(text, ends, p, b"decimal")

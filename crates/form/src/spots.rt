@@ -5,7 +5,7 @@ ghost use Rattle.view.specs.Elements.{elements, elements_at};
 ghost use Rattle.view.specs.Known.{Known};
 ghost use Rattle.form.specs.Spots.{is_text, is_object, is_array, as_text, as_array, all_texts, aliases_in};
 
-use view::{Shape, Spot, first_element, next_element, shape_at};
+use view::{Shape, first_element, next_element, shape_at};
 
 // Does a string stand here?
 pub fn is_text(text: &[u8], at: usize) -> bool
@@ -50,29 +50,29 @@ pub fn is_array(text: &[u8], at: usize) -> bool
 }
 
 // The place, if a string stands there.
-pub fn as_text(text: &[u8], spot: Spot) -> Spot
+pub fn as_text(text: &[u8], spot: Option<usize>) -> Option<usize>
     ensures { result ≡ as_text text.now spot }
 {
-    let Spot::At(p) = spot else {
-        return Spot::Nowhere;
+    let Some(p) = spot else {
+        return None;
     };
     if is_text(text, p) {
-        return Spot::At(p);
+        return Some(p);
     }
-    Spot::Nowhere
+    None
 }
 
 // The place, if an array stands there.
-pub fn as_array(text: &[u8], spot: Spot) -> Spot
+pub fn as_array(text: &[u8], spot: Option<usize>) -> Option<usize>
     ensures { result ≡ as_array text.now spot }
 {
-    let Spot::At(p) = spot else {
-        return Spot::Nowhere;
+    let Some(p) = spot else {
+        return None;
     };
     if is_array(text, p) {
-        return Spot::At(p);
+        return Some(p);
     }
-    Spot::Nowhere
+    None
 }
 
 // Are all elements of the array at a place strings?
@@ -82,7 +82,7 @@ pub fn all_texts(text: &[u8], ends: &[u16], array: usize) -> bool
 {
     let mut spot = first_element(text, array);
     loop {
-        let Spot::At(p) = spot else {
+        let Some(p) = spot else {
             return true;
         };
         if !is_text(text, p) {
@@ -93,15 +93,15 @@ pub fn all_texts(text: &[u8], ends: &[u16], array: usize) -> bool
 }
 
 // The first of the strings of `aliases`, whose value is at the place; the others are the elements behind it.
-pub fn first_alias(text: &[u8], ends: &[u16], spot: Spot) -> Spot
+pub fn first_alias(text: &[u8], ends: &[u16], spot: Option<usize>) -> Option<usize>
     requires { Known text.now ends.now }
     ensures { elements_at text.now result ≡ aliases_in text.now spot }
 {
-    let Spot::At(p) = as_array(text, spot) else {
-        return Spot::Nowhere;
+    let Some(p) = as_array(text, spot) else {
+        return None;
     };
     if all_texts(text, ends, p) {
         return first_element(text, p);
     }
-    Spot::Nowhere
+    None
 }

@@ -1,5 +1,6 @@
 -- Values of a scanned text by how many brackets are open around them: one more at each element and at each member's value, and never more than 64.
 -- Assumes nothing.
+use Rattle.std.specs.Prelude.{Option, Some, None}
 use mathlib.Core.Path.{◌≡◌, refl, ap, ◌∙◌, subst}
 use mathlib.Core.Bool.{Bool, true, false, cond, ◌||◌}
 use mathlib.Core.List.{List, [], ◌∷◌}
@@ -12,8 +13,6 @@ use Rattle.answer.specs.declared.refusal.Why.TheVariants.{NestedTooDeep}
 use Rattle.ground.specs.Bytes.{byte_at}
 use Rattle.json_scan.specs.Json.{Mode, Stack, Move, Bracket, go, die, deepest, is_digit, square, brace, val, first, key0, opens, step}
 use Rattle.json_scan.specs.Meets.{run_at}
-use Rattle.view.specs.declared.space.Spot.{Spot}
-use Rattle.view.specs.declared.space.Spot.TheVariants.{At, Nowhere}
 use Rattle.view.specs.declared.shape.Shape.TheVariants.{Text, Number, Object, Array, Word, Nothing}
 use Rattle.view.specs.Values.{shape_of, shape_at}
 use Rattle.view.specs.Elements.{elements}
@@ -54,18 +53,18 @@ object_byte b h = go1 (eqb b 34) (eqb b 91) (eqb b 123) refl (eqb b 45 || is_dig
 
 -- ---- places
 
-pub same_spot : {p q : ℕ} → At p ≡ At q → p ≡ q
+pub same_spot : {p q : ℕ} → Some p ≡ Some q → p ≡ q
 same_spot h = cc
 
-pub somewhere : {A : Type 0} {q : ℕ} → Nowhere ≡ At q → A
+pub somewhere : {A : Type 0} {q : ℕ} → None ≡ Some q → A
 somewhere h = let z : ◌≡◌ {A = ℕ} 0 1 = cc in absurd (omega arith)
 
-pub as_array_lem : (t : List ℕ) (s : Spot) (v : ℕ) → as_array t s ≡ At v → (s ≡ At v) × (byte_at t v ≡ 91)
+pub as_array_lem : (t : List ℕ) (s : Option ℕ) (v : ℕ) → as_array t s ≡ Some v → (s ≡ Some v) × (byte_at t v ≡ 91)
 unfolding as_array
-as_array_lem t Nowhere v e = somewhere e
-as_array_lem t (At p) v e = go1 (is_array (shape_at t p)) refl e
+as_array_lem t None v e = somewhere e
+as_array_lem t (Some p) v e = go1 (is_array (shape_at t p)) refl e
   where
-    go1 : (b : Bool) → is_array (shape_at t p) ≡ b → cond b (At p) Nowhere ≡ At v → (At p ≡ At v) × (byte_at t v ≡ 91)
+    go1 : (b : Bool) → is_array (shape_at t p) ≡ b → cond b (Some p) None ≡ Some v → (Some p ≡ Some v) × (byte_at t v ≡ 91)
     go1 true h e = (e, subst (λ (x : ℕ). byte_at t x ≡ 91) (same_spot e) (array_byte (byte_at t p) h))
     go1 false h e = somewhere e
 
@@ -116,7 +115,7 @@ module _ (t : List ℕ) (n p : ℕ) where
       map_all (within k square o.deep.least (room t p k 91 square first refl o.byte s)) (elements t p) (elements_scanned t k p o.byte s)
 
   -- the value under a key of an object
-  pub deep_member : Opens t n 123 p → (w : List ℕ) (v : ℕ) → member t p w ≡ At v → Deep t (suc n) v
+  pub deep_member : Opens t n 123 p → (w : List ℕ) (v : ℕ) → member t p w ≡ Some v → Deep t (suc n) v
   deep_member o w v e =
       let k = o.deep.stack in
       let s = o.deep.scanned in

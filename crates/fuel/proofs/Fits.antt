@@ -1,6 +1,7 @@
 -- The nesting that `fits` is given never runs out on a default that memory may keep: with any more of it the answer is the same. So it is there to
 -- make the recursion end, and refuses nothing.
 -- Assumes nothing.
+use Rattle.std.specs.Prelude.{Option, Some, None}
 use mathlib.Core.Path.{◌≡◌, refl, sym, ap, ap₂, ◌∙◌}
 use mathlib.Core.Bool.{Bool, true, false, not, cond, ◌&&◌, ◌||◌}
 use mathlib.Core.List.{List, [], ◌∷◌}
@@ -19,12 +20,11 @@ use Rattle.json_scan.proofs.Laws.{not_too_long}
 use Rattle.row.specs.Rows.{Row}
 use Rattle.row.specs.declared.kind.Kind.{Kind}
 use Rattle.row.specs.declared.kind.Kind.TheVariants.{Null, Boolean, Int, Long, Float, Double, Bytes, String, Reference, Array, Map, Union, Record, Enum, Fixed, Field, Symbol, Alias, FieldAlias}
-use Rattle.view.specs.declared.space.Spot.{Spot}
-use Rattle.view.specs.declared.space.Spot.TheVariants.{At, Nowhere}
 use Rattle.view.specs.Values.{count, skip_of, value_start}
 use Rattle.view.specs.Elements.{elements}
 use Rattle.view.specs.Strings.{string_at}
-use Rattle.view.specs.Members.{Member, members_at, member}
+use Rattle.view.specs.Members.{members_at, member}
+use Rattle.view.specs.declared.members.Member.{Member}
 use Rattle.view.proofs.Laws.{All}
 use Rattle.viewed.proofs.Scanned.{text_scanned}
 use Rattle.resolve.specs.Kinds.{is_kind}
@@ -54,10 +54,10 @@ some_alike h (x ∷ xs) = ap₂ (λ (p q : Bool). p || q) (h x) (some_alike h xs
 -- ---- two readers that agree on every value one bracket further in
 
 module _ (t : List ℕ) (m : ℕ) {go go' : List Row → ℕ → Bool} (same : (type : List Row) (q : ℕ) → Deep t (suc m) q → go type q ≡ go' type q) where
-  value_same : (type : List Row) (none : Bool) (s : Spot) → ((v : ℕ) → s ≡ At v → Deep t (suc m) v) → on_value (go type) none s ≡ on_value (go' type) none s
+  value_same : (type : List Row) (none : Bool) (s : Option ℕ) → ((v : ℕ) → s ≡ Some v → Deep t (suc m) v) → on_value (go type) none s ≡ on_value (go' type) none s
   unfolding on_value
-  value_same type none (At v) h = same type v (h v refl)
-  value_same type none Nowhere h = refl
+  value_same type none (Some v) h = same type v (h v refl)
+  value_same type none None h = refl
 
   module _ (p : ℕ) (o : Opens t m 123 p) where
     member_same : (type : List Row) (k : Member) → member_fits t go type p k ≡ member_fits t go' type p k

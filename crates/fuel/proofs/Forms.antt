@@ -1,5 +1,6 @@
 -- Two readers that agree on every schema one bracket further in give the same form of a schema, and its object or bracket stands no less deep.
 -- Assumes nothing.
+use Rattle.std.specs.Prelude.{Option, Some, None}
 use mathlib.Core.Path.{◌≡◌, refl, ap}
 use mathlib.Core.Bool.{Bool, true, false, cond}
 use mathlib.Core.List.{List}
@@ -7,8 +8,6 @@ use Prim.Native.Nat.{ℕ, zero, suc}
 use Rattle.answer.specs.declared.refusal.Why.TheVariants.{TypeMissing}
 use Rattle.ground.specs.Ascii.{ascii}
 use Rattle.ground.specs.Bytes.{byte_at, same}
-use Rattle.view.specs.declared.space.Spot.{Spot}
-use Rattle.view.specs.declared.space.Spot.TheVariants.{At, Nowhere}
 use Rattle.view.specs.declared.shape.Shape.{Shape}
 use Rattle.view.specs.declared.shape.Shape.TheVariants.{Text, Number, Object, Array, Word, Nothing}
 use Rattle.view.specs.Values.{shape_at}
@@ -21,30 +20,30 @@ use Rattle.form.specs.Spots.{on_spot, is_text, is_object, is_array, as_array}
 use Rattle.form.specs.Forms.{object_form, form_by, form_within}
 use Rattle.fuel.proofs.Deep.{Deep, Opens, array_byte, object_byte, as_array_lem, deep_less, deep_member}
 
-pub spot_same : {A : Type 0} (s : Spot) {f g : ℕ → A} (x : A) → ((q : ℕ) → s ≡ At q → f q ≡ g q) → on_spot s f x ≡ on_spot s g x
-spot_same (At q) x h = h q refl
-spot_same Nowhere x h = refl
+pub spot_same : {A : Type 0} (s : Option ℕ) {f g : ℕ → A} (x : A) → ((q : ℕ) → s ≡ Some q → f q ≡ g q) → on_spot s f x ≡ on_spot s g x
+spot_same (Some q) x h = h q refl
+spot_same None x h = refl
 
 module _ (t : List ℕ) where
   -- ---- the members of an object
 
-  pub typed_deep : (n p : ℕ) → Opens t n 123 p → (q : ℕ) → (members_of t p).typed ≡ At q → Deep t (suc n) q
+  pub typed_deep : (n p : ℕ) → Opens t n 123 p → (q : ℕ) → (members_of t p).typed ≡ Some q → Deep t (suc n) q
   unfolding members_of
   typed_deep n p o q e = deep_member t n p o type_key q e
 
-  pub default_at_lem : (n p : ℕ) → Opens t n 123 p → (q : ℕ) → (members_of t p).default ≡ At q → Deep t (suc n) q
+  pub default_at_lem : (n p : ℕ) → Opens t n 123 p → (q : ℕ) → (members_of t p).default ≡ Some q → Deep t (suc n) q
   unfolding members_of
   default_at_lem n p o q e = deep_member t n p o default_key q e
 
-  pub items_at : (n p : ℕ) → Opens t n 123 p → (q : ℕ) → (members_of t p).items ≡ At q → Deep t (suc n) q
+  pub items_at : (n p : ℕ) → Opens t n 123 p → (q : ℕ) → (members_of t p).items ≡ Some q → Deep t (suc n) q
   unfolding members_of
   items_at n p o q e = deep_member t n p o items_key q e
 
-  pub values_at : (n p : ℕ) → Opens t n 123 p → (q : ℕ) → (members_of t p).values ≡ At q → Deep t (suc n) q
+  pub values_at : (n p : ℕ) → Opens t n 123 p → (q : ℕ) → (members_of t p).values ≡ Some q → Deep t (suc n) q
   unfolding members_of
   values_at n p o q e = deep_member t n p o values_key q e
 
-  pub fields_at : (n p : ℕ) → Opens t n 123 p → (v : ℕ) → as_array t (members_of t p).fields ≡ At v → Opens t (suc n) 91 v
+  pub fields_at : (n p : ℕ) → Opens t n 123 p → (v : ℕ) → as_array t (members_of t p).fields ≡ Some v → Opens t (suc n) 91 v
   unfolding members_of
   fields_at n p o v e = let i = as_array_lem t (members_of t p).fields v e in record { deep = deep_member t n p o fields_key v i.0; byte = i.1 }
 
@@ -58,7 +57,7 @@ module _ (t : List ℕ) where
 
   -- ---- two readers
 
-  by_same : {f g : ℕ → Form} (p : ℕ) (s : Shape) → (s ≡ Object → (q : ℕ) → (members_of t p).typed ≡ At q → f q ≡ g q) → form_by f t p s ≡ form_by g t p s
+  by_same : {f g : ℕ → Form} (p : ℕ) (s : Shape) → (s ≡ Object → (q : ℕ) → (members_of t p).typed ≡ Some q → f q ≡ g q) → form_by f t p s ≡ form_by g t p s
   unfolding form_by
   by_same p Text h = refl
   by_same p Number h = refl
@@ -92,7 +91,7 @@ module _ (t : List ℕ) where
         go1 (same w (ascii "record")) (same w (ascii "enum")) (same w (ascii "fixed")) (same w (ascii "array")) (same w (ascii "map"))
       where
         go1 : (a b c d e : Bool)
-            → Stands (cond a (form.RecordOf p) (cond b (form.EnumOf p) (cond c (form.FixedOf p) (cond d (form.ArrayOf p) (cond e (form.MapOf p) (form.Word q (At p)))))))
+            → Stands (cond a (form.RecordOf p) (cond b (form.EnumOf p) (cond c (form.FixedOf p) (cond d (form.ArrayOf p) (cond e (form.MapOf p) (form.Word q (Some p)))))))
         go1 true b c d e = o
         go1 false true c d e = o
         go1 false false true d e = o
@@ -113,10 +112,10 @@ module _ (t : List ℕ) where
         go2 true q i = object_stands (string_at t q) p q (opens_object m p d e)
         go2 false q i = h q (deep_less i)
 
-        go1 : (s : Spot) → ((q : ℕ) → s ≡ At q → Deep t (suc m) q)
+        go1 : (s : Option ℕ) → ((q : ℕ) → s ≡ Some q → Deep t (suc m) q)
             → Stands (on_spot s (λ q. cond (is_text (shape_at t q)) (object_form (string_at t q) p q) (f q)) (form.Wrong (fault TypeMissing p)))
-        go1 Nowhere g = tt
-        go1 (At q) g = go2 (is_text (shape_at t q)) q (g q refl)
+        go1 None g = tt
+        go1 (Some q) g = go2 (is_text (shape_at t q)) q (g q refl)
 
     pub form_stands : (n p : ℕ) → Deep t m p → Stands (form_within n t p)
     unfolding form_within

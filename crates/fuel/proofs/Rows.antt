@@ -1,5 +1,6 @@
 -- Two readers that agree on every schema one bracket further in give the same rows of a schema.
 -- Assumes nothing.
+use Rattle.std.specs.Prelude.{Option, Some}
 use mathlib.Core.Path.{◌≡◌, refl, ap, ◌∙◌}
 use mathlib.Core.List.{List, [], ◌∷◌}
 use Prim.Native.Nat.{ℕ, suc, ◌+◌}
@@ -7,8 +8,6 @@ use Rattle.answer.specs.declared.refusal.Why.TheVariants.{NameMissing, TypeMissi
 use Rattle.name.specs.Name.{namespace_part}
 use Rattle.row.specs.declared.kind.Kind.{Kind}
 use Rattle.row.specs.declared.kind.Kind.TheVariants.{Array, Map, Union, Record}
-use Rattle.view.specs.declared.space.Spot.{Spot}
-use Rattle.view.specs.declared.space.Spot.TheVariants.{At}
 use Rattle.view.specs.Elements.{elements}
 use Rattle.view.specs.Members.{members_of}
 use Rattle.view.specs.declared.members.Members.{Members}
@@ -43,7 +42,7 @@ definition_same t a k d p ms size n h =
     ap (λ (x : Out). after (definition_check t a.namespace ms q) (new_name t a full (rows_then (row_with k d q full size n ∷ []) (and_then (each (alias_rows t own (d + 1)) (aliases_in t ms.aliases)) x)))) (h own))
 
 module _ (t : List ℕ) (m : ℕ) {s s' : Around → ℕ → ℕ → Out} (same : (a : Around) (d q : ℕ) → Deep t (suc m) q → s a d q ≡ s' a d q) where
-  part_same : (a : Around) (k : Kind) (d p : ℕ) (part : Spot) (x : Out) → ((q : ℕ) → part ≡ At q → Deep t (suc m) q)
+  part_same : (a : Around) (k : Kind) (d p : ℕ) (part : Option ℕ) (x : Out) → ((q : ℕ) → part ≡ Some q → Deep t (suc m) q)
       → part_rows s t a k d p part x ≡ part_rows s' t a k d p part x
   unfolding part_rows
   part_same a k d p part x h =

@@ -1,5 +1,6 @@
 -- The default that a field's row keeps: its bytes, as they are written in the text, are a whole text with no white space at its ends.
 -- Assumes nothing.
+use Rattle.std.specs.Prelude.{Option, Some, None, Ok}
 use mathlib.Core.Path.{◌≡◌, refl, sym, ◌∙◌}
 use mathlib.Core.Bool.{true, false}
 use mathlib.Core.List.{List}
@@ -16,10 +17,7 @@ use Rattle.json_scan.proofs.Laws.{not_too_long}
 use Rattle.row.specs.declared.kind.Kind.TheVariants.{Field}
 use Rattle.view.specs.Ends.{end_of}
 use Rattle.view.specs.Members.{members_of}
-use Rattle.view.specs.declared.space.Spot.{Spot}
-use Rattle.view.specs.declared.space.Spot.TheVariants.{At, Nowhere}
 use Rattle.tree.proofs.Cut.{Cut, value_cut}
-use Rattle.form.specs.declared.check.Check.TheVariants.{Fine}
 use Rattle.form.specs.Checks.{fault}
 use Rattle.schema.specs.Schema.{written_at, field_row, kept_check}
 use Rattle.answer.specs.declared.refusal.Why.TheVariants.{DefaultTooLong}
@@ -51,37 +49,37 @@ module _ (t : List ℕ) (v : ℕ) (c : Cut t v) where
 
 -- ---- the default of a field that was read: a value of the text, and short
 
-pub record Default (t : List ℕ) (s : Spot) : Type 0 where
-  pub cut : (v : ℕ) → s ≡ At v → Cut t v
-  pub short : kept_check t s ≡ Fine
+pub record Default (t : List ℕ) (s : Option ℕ) : Type 0 where
+  pub cut : (v : ℕ) → s ≡ Some v → Cut t v
+  pub short : kept_check t s ≡ Ok tt
 
-pub default_read : {t : List ℕ} {n f : ℕ} → Opens t n 123 f → kept_check t (members_of t f).default ≡ Fine → Default t (members_of t f).default
+pub default_read : {t : List ℕ} {n f : ℕ} → Opens t n 123 f → kept_check t (members_of t f).default ≡ Ok tt → Default t (members_of t f).default
 default_read {t} {n} {f} o h = record { cut = λ v e. (let i = default_at_lem t n f o v e in value_cut t v i.stack i.scanned); short = h }
 
 -- ---- the field's row
 
 module _ (t : List ℕ) (d q : ℕ) where
-  pub field_strings : (s : Spot) → Default t s → Own t q → good_strings (field_row t d q s) ≡ true
+  pub field_strings : (s : Option ℕ) → Default t s → Own t q → good_strings (field_row t d q s) ≡ true
   unfolding good_strings good_default field_row kept_check is_kind is_definition is_empty
-  field_strings Nowhere k o = rw (own_text Field refl refl refl o)
-  field_strings (At v) k o =
+  field_strings None k o = rw (own_text Field refl refl refl o)
+  field_strings (Some v) k o =
       let c = k.cut v refl in
       let h = must_true (is_short (written_at t v)) (fault DefaultTooLong v) k.short in
       rw (own_text Field refl refl refl o, written_some t v c, written_default t v c h)
 
-  pub field_numbers : length t ≤ longest → q < length t → (s : Spot) → Default t s → good_numbers (field_row t d q s) ≡ true
+  pub field_numbers : length t ≤ longest → q < length t → (s : Option ℕ) → Default t s → good_numbers (field_row t d q s) ≡ true
   unfolding good_numbers good_size good_note good_precision good_decimal field_row is_kind is_empty
-  field_numbers short w Nowhere k = rw (lt-ltb q longest (omega arith))
-  field_numbers short w (At v) k =
+  field_numbers short w None k = rw (lt-ltb q longest (omega arith))
+  field_numbers short w (Some v) k =
       let c = k.cut v refl in
       let some = c.some in
       let within = c.within in
       rw (lt-ltb q longest (omega arith), written_some t v c, lt-ltb v longest (omega arith))
 
-  pub field_placed : q < length t → (s : Spot) → Default t s → Placed t (field_row t d q s)
+  pub field_placed : q < length t → (s : Option ℕ) → Default t s → Placed t (field_row t d q s)
   unfolding field_row is_empty
-  field_placed w Nowhere k = record { position = w; default = λ h. never (sym h) }
-  field_placed w (At v) k =
+  field_placed w None k = record { position = w; default = λ h. never (sym h) }
+  field_placed w (Some v) k =
       let c = k.cut v refl in
       let some = c.some in
       let within = c.within in

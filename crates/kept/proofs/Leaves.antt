@@ -1,5 +1,6 @@
 -- Rows with nothing under them: aliases, field aliases, symbols; and a definition's aliases.
 -- Assumes nothing.
+use Rattle.std.specs.Prelude.{Ok}
 use mathlib.Core.Path.{◌≡◌, refl, sym}
 use mathlib.Core.Bool.{Bool, true, not}
 use mathlib.Core.List.{List, [], ◌∷◌, ◌++◌, map}
@@ -13,7 +14,6 @@ use Rattle.row.specs.Rows.{Row}
 use Rattle.row.specs.declared.kind.Kind.{Kind}
 use Rattle.row.specs.declared.kind.Kind.TheVariants.{Symbol, Alias, FieldAlias}
 use Rattle.view.specs.Strings.{string_at}
-use Rattle.form.specs.declared.check.Check.TheVariants.{Fine}
 use Rattle.form.specs.Checks.{fault, must, ◌then◌}
 use Rattle.form.specs.Names.{simple_check, full_at, alias_check}
 use Rattle.form.specs.Notes.{noted}
@@ -92,14 +92,14 @@ module _ (t : List ℕ) (short : length t ≤ longest) where
     pub missed : (a : Row) → is_one_of taken a.text ≡ true → Misses (same_symbol d) a rs
     pub apart : no_two (same_symbol d) rs ≡ true
 
-  symbol_rows_lem : (d q : ℕ) → simple_check t q ≡ Fine → Rows t (d + 1) (is_kind Symbol) (row Symbol (d + 1) q (string_at t q))
+  symbol_rows_lem : (d q : ℕ) → simple_check t q ≡ Ok tt → Rows t (d + 1) (is_kind Symbol) (row Symbol (d + 1) q (string_at t q))
   unfolding is_kind is_definition parts_fit body_fits past every has_one is_alias_of is_part_of
   symbol_rows_lem d q e =
       let o = simple_own t q e in
       let w = o.within in
       leaf (row_with Symbol (d + 1) q (string_at t q) 0 (noted 0)) refl refl w refl (own_text Symbol refl refl refl o) (plain_numbers Symbol (d + 1) q _ (omega arith)) refl
 
-  pub symbols_apart : (d : ℕ) (taken : List (List ℕ)) (qs : List ℕ) {rs : List Row} → symbols_new t taken qs ≡ Fine → each (symbol_rows t (d + 1)) qs ≡ read rs → Symbols d taken rs
+  pub symbols_apart : (d : ℕ) (taken : List (List ℕ)) (qs : List ℕ) {rs : List Row} → symbols_new t taken qs ≡ Ok tt → each (symbol_rows t (d + 1)) qs ≡ read rs → Symbols d taken rs
   unfolding symbols_new each symbol_rows
   symbols_apart d taken [] c e = rw (sym (read_same e)) (record { rows = rows_none; missed = λ a h. nil; apart = two_nil (same_symbol d) })
   symbols_apart d taken (q ∷ qs) c e =

@@ -1,5 +1,6 @@
 -- Unions; 19, of each member against those before it.
 -- Assumes nothing.
+use Rattle.std.specs.Prelude.{Ok}
 use mathlib.Core.Path.{◌≡◌, refl, sym, ap, ◌∙◌}
 use mathlib.Core.Bool.{true, false, not}
 use mathlib.Core.List.{List, [], ◌∷◌, ◌++◌, append_assoc}
@@ -16,7 +17,6 @@ use Rattle.row.specs.declared.kind.Kind.TheVariants.{Union}
 use Rattle.view.specs.Ends.{end_of}
 use Rattle.view.specs.Elements.{elements}
 use Rattle.view.proofs.Laws.{All as Each, Ascending, elements_ascend, end_ahead}
-use Rattle.form.specs.declared.check.Check.TheVariants.{Fine}
 use Rattle.form.specs.declared.forms.Form.{Form}
 use Rattle.rules.specs.declared.standing.Standing.TheVariants.{MemberOf}
 use Rattle.form.specs.Forms.{form_of}
@@ -61,7 +61,7 @@ new_behind t namespace h (p ∷ ps) q e =
     (and_intro (not (clashes (head_of t namespace (form_of t p)) h)) (is_new t namespace h ps) z.0 y.0, y.1)
 
 -- a member that was read passed 19 against those before it
-member_passed : (t namespace : List ℕ) (u q : ℕ) (h : Head) (ps qs : List ℕ) → elements t u ≡ ps ++ (q ∷ qs) → union_check t namespace (MemberOf u q) h ≡ Fine
+member_passed : (t namespace : List ℕ) (u q : ℕ) (h : Head) (ps qs : List ℕ) → elements t u ≡ ps ++ (q ∷ qs) → union_check t namespace (MemberOf u q) h ≡ Ok tt
     → (not (is_union h) ≡ true) × (is_new t namespace h ps ≡ true)
 unfolding union_check
 member_passed t namespace u q h ps qs e c =

@@ -1,5 +1,6 @@
 -- The numbers of a row: its position, a fixed's size, a decimal's note.
 -- Assumes nothing.
+use Rattle.std.specs.Prelude.{Option, Some, None}
 use mathlib.Core.Path.{◌≡◌, refl}
 use mathlib.Core.Bool.{Bool, true, false, cond, ◌&&◌}
 use mathlib.Core.List.{List, [], ◌∷◌}
@@ -17,10 +18,6 @@ use Rattle.row.specs.declared.kind.Kind.{Kind}
 use Rattle.row.specs.declared.kind.Kind.TheVariants.{Bytes, Fixed}
 use Rattle.view.specs.Ends.{is_delimiter}
 use Rattle.view.specs.Size.{fitting, size_from, size_of}
-use Rattle.view.specs.declared.sizes.Size.{Size}
-use Rattle.view.specs.declared.sizes.Size.TheVariants.{Value, NoSize}
-use Rattle.view.specs.declared.space.Spot.{Spot}
-use Rattle.view.specs.declared.space.Spot.TheVariants.{At, Nowhere}
 use Rattle.view.specs.declared.members.Members.{Members}
 use Rattle.form.specs.declared.note.Note.{Note}
 use Rattle.form.specs.declared.note.Plain.{Plain}
@@ -33,33 +30,33 @@ use Rattle.resolve.specs.Rules.{good_size, good_note, good_precision, good_decim
 
 -- ---- a size literal lies below 2^64
 
-none_value : {A : Type 0} {v : ℕ} → NoSize ≡ Value v → A
+none_value : {A : Type 0} {v : ℕ} → None ≡ Some v → A
 none_value e = let z : ◌≡◌ {A = ℕ} 0 1 = cc in absurd (omega arith)
 
-fitting_small : (n v : ℕ) → fitting n ≡ Value v → v < 2 ^ 64
+fitting_small : (n v : ℕ) → fitting n ≡ Some v → v < 2 ^ 64
 unfolding fitting
 fitting_small n v e = go (ltb n 18446744073709551616) refl e
   where
-    go : (b : Bool) → ltb n 18446744073709551616 ≡ b → cond b (Value n) NoSize ≡ Value v → v < 2 ^ 64
+    go : (b : Bool) → ltb n 18446744073709551616 ≡ b → cond b (Some n) None ≡ Some v → v < 2 ^ 64
     go true q f = let h = ltb-true n 18446744073709551616 q in let i : n ≡ v = cc in omega arith
     go false q f = none_value f
 
-from_small : (n : ℕ) (bs : List ℕ) (v : ℕ) → size_from n bs ≡ Value v → v < 2 ^ 64
+from_small : (n : ℕ) (bs : List ℕ) (v : ℕ) → size_from n bs ≡ Some v → v < 2 ^ 64
 unfolding size_from
 from_small n [] v e = fitting_small n v e
 from_small n (b ∷ bs) v e = go (is_digit b) (is_delimiter b) e (from_small (n * 10 + (b - 48)) bs v)
   where
-    go : (x y : Bool) → cond x (size_from (n * 10 + (b - 48)) bs) (cond y (fitting n) NoSize) ≡ Value v
-        → (size_from (n * 10 + (b - 48)) bs ≡ Value v → v < 2 ^ 64) → v < 2 ^ 64
+    go : (x y : Bool) → cond x (size_from (n * 10 + (b - 48)) bs) (cond y (fitting n) None) ≡ Some v
+        → (size_from (n * 10 + (b - 48)) bs ≡ Some v → v < 2 ^ 64) → v < 2 ^ 64
     go true y f h = h f
     go false true f h = fitting_small n v f
     go false false f h = none_value f
 
-pub size_small : (t : List ℕ) (p v : ℕ) → size_of t p ≡ Value v → v < 2 ^ 64
+pub size_small : (t : List ℕ) (p v : ℕ) → size_of t p ≡ Some v → v < 2 ^ 64
 unfolding size_of
 size_small t p v e = go (is_digit (byte_at t p)) e
   where
-    go : (b : Bool) → cond b (size_from 0 (drop p t)) NoSize ≡ Value v → v < 2 ^ 64
+    go : (b : Bool) → cond b (size_from 0 (drop p t)) None ≡ Some v → v < 2 ^ 64
     go true f = from_small 0 (drop p t) v f
     go false f = none_value f
 
@@ -116,25 +113,25 @@ module _ (t : List ℕ) (m : Members) (o : Plain) where
   unfolding with_scale
   scale_good p h = go m.scale
     where
-      sized : (z : Size) → Noted o (on_size z (compared o p) (noted 4))
-      sized (Value v) = compared_good o p v h
-      sized NoSize = low o 4 (omega arith) (λ (z : 4 ≡ 1). omega arith)
+      sized : (z : Option ℕ) → Noted o (on_size z (compared o p) (noted 4))
+      sized (Some v) = compared_good o p v h
+      sized None = low o 4 (omega arith) (λ (z : 4 ≡ 1). omega arith)
 
-      go : (s : Spot) → Noted o (on_spot s (λ q. on_size (size_of t q) (compared o p) (noted 4)) (compared o p 0))
-      go (At q) = sized (size_of t q)
-      go Nowhere = compared_good o p 0 h
+      go : (s : Option ℕ) → Noted o (on_spot s (λ q. on_size (size_of t q) (compared o p) (noted 4)) (compared o p 0))
+      go (Some q) = sized (size_of t q)
+      go None = compared_good o p 0 h
 
   precision_good : Noted o (with_precision t m o)
   unfolding with_precision
   precision_good = go m.precision
     where
-      sized : (q : ℕ) (z : Size) → size_of t q ≡ z → Noted o (on_size z (with_scale t m o) (noted 3))
-      sized q (Value v) e = scale_good v (size_small t q v e)
-      sized q NoSize e = low o 3 (omega arith) (λ (z : 3 ≡ 1). omega arith)
+      sized : (q : ℕ) (z : Option ℕ) → size_of t q ≡ z → Noted o (on_size z (with_scale t m o) (noted 3))
+      sized q (Some v) e = scale_good v (size_small t q v e)
+      sized q None e = low o 3 (omega arith) (λ (z : 3 ≡ 1). omega arith)
 
-      go : (s : Spot) → Noted o (on_spot s (λ q. on_size (size_of t q) (with_scale t m o) (noted 3)) (noted 2))
-      go (At q) = sized q (size_of t q) refl
-      go Nowhere = low o 2 (omega arith) (λ (z : 2 ≡ 1). omega arith)
+      go : (s : Option ℕ) → Noted o (on_spot s (λ q. on_size (size_of t q) (with_scale t m o) (noted 3)) (noted 2))
+      go (Some q) = sized q (size_of t q) refl
+      go None = low o 2 (omega arith) (λ (z : 2 ≡ 1). omega arith)
 
   pub note_good : Noted o (note_of t m o)
   unfolding note_of

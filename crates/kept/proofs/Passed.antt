@@ -1,5 +1,6 @@
 -- What was read was read part by part, and each check before it was passed.
 -- Assumes nothing.
+use Rattle.std.specs.Prelude.{Option, Some, None, Ok, Err}
 use mathlib.Core.Path.{◌≡◌, refl, sym}
 use mathlib.Core.Bool.{Bool, true, false}
 use mathlib.Core.List.{List, [], ◌∷◌, ◌++◌}
@@ -8,13 +9,7 @@ use native.Mathlib.Omega.{arith}
 use Rattle.answer.specs.declared.refusal.Fault.{Fault}
 use Rattle.row.specs.Rows.{Row}
 use Rattle.row.specs.declared.kind.Kind.{Kind}
-use Rattle.view.specs.declared.space.Spot.{Spot}
-use Rattle.view.specs.declared.space.Spot.TheVariants.{At, Nowhere}
-use Rattle.view.specs.declared.sizes.Size.{Size}
-use Rattle.view.specs.declared.sizes.Size.TheVariants.{Value, NoSize}
-use Rattle.form.specs.declared.check.Check.{Check}
-use Rattle.form.specs.declared.check.Check.TheVariants.{Fine, Bad}
-use Rattle.form.specs.Checks.{must, ◌then◌}
+use Rattle.form.specs.Checks.{must, ◌then◌, Check}
 use Rattle.form.specs.Spots.{on_spot}
 use Rattle.form.specs.Notes.{on_size}
 use Rattle.schema.specs.Out.{Out, refused, read, rows_then, and_then, after, each}
@@ -23,16 +18,16 @@ use Rattle.kept.proofs.Forest.{Rows, rows_none, rows_append}
 
 -- ---- checks
 
-pub bad_fine : {A : Type 0} {f : Fault} → Bad f ≡ Fine → A
+pub bad_fine : {A : Type 0} {f : Fault} → Err f ≡ Ok tt → A
 bad_fine e = let z : ◌≡◌ {A = ℕ} 0 1 = cc in absurd (omega arith)
 
-pub must_true : (b : Bool) (f : Fault) → must b f ≡ Fine → b ≡ true
+pub must_true : (b : Bool) (f : Fault) → must b f ≡ Ok tt → b ≡ true
 must_true true f e = refl
 must_true false f e = bad_fine e
 
-pub then_fine : (a b : Check) → (a then b) ≡ Fine → (a ≡ Fine) × (b ≡ Fine)
-then_fine Fine b e = (refl, e)
-then_fine (Bad f) b e = bad_fine e
+pub then_fine : (a b : Check) → (a then b) ≡ Ok tt → (a ≡ Ok tt) × (b ≡ Ok tt)
+then_fine (Ok tt) b e = (refl, e)
+then_fine (Err f) b e = bad_fine e
 
 -- ---- what was read
 
@@ -42,9 +37,9 @@ unread e = let z : ◌≡◌ {A = ℕ} 0 1 = cc in absurd (omega arith)
 pub read_same : {xs ys : List Row} → read xs ≡ read ys → xs ≡ ys
 read_same e = cc
 
-pub after_read : (c : Check) (o : Out) {rs : List Row} → after c o ≡ read rs → (c ≡ Fine) × (o ≡ read rs)
-after_read Fine o e = (refl, e)
-after_read (Bad f) o e = unread e
+pub after_read : (c : Check) (o : Out) {rs : List Row} → after c o ≡ read rs → (c ≡ Ok tt) × (o ≡ read rs)
+after_read (Ok tt) o e = (refl, e)
+after_read (Err f) o e = unread e
 
 pub record Then (xs : List Row) (o : Out) (rs : List Row) : Type 0 where
   pub more : List Row
@@ -67,23 +62,23 @@ both_read (refused f) b e = unread e
 both_read (read xs) (refused f) e = unread e
 both_read (read xs) (read ys) e = record { front = xs; behind = ys; first = refl; second = refl; is = cc }
 
-pub record There (s : Spot) (f : ℕ → Out) (rs : List Row) : Type 0 where
+pub record There (s : Option ℕ) (f : ℕ → Out) (rs : List Row) : Type 0 where
   pub place : ℕ
-  pub at : s ≡ At place
+  pub at : s ≡ Some place
   pub reads : f place ≡ read rs
 
-pub spot_read : (s : Spot) (f : ℕ → Out) (x : Fault) {rs : List Row} → on_spot s f (refused x) ≡ read rs → There s f rs
-spot_read (At q) f x e = record { place = q; at = refl; reads = e }
-spot_read Nowhere f x e = unread e
+pub spot_read : (s : Option ℕ) (f : ℕ → Out) (x : Fault) {rs : List Row} → on_spot s f (refused x) ≡ read rs → There s f rs
+spot_read (Some q) f x e = record { place = q; at = refl; reads = e }
+spot_read None f x e = unread e
 
-pub record Sized (s : Size) (f : ℕ → Out) (rs : List Row) : Type 0 where
+pub record Sized (s : Option ℕ) (f : ℕ → Out) (rs : List Row) : Type 0 where
   pub size : ℕ
-  pub value : s ≡ Value size
+  pub value : s ≡ Some size
   pub reads : f size ≡ read rs
 
-pub size_read : (s : Size) (f : ℕ → Out) (x : Fault) {rs : List Row} → on_size s f (refused x) ≡ read rs → Sized s f rs
-size_read (Value v) f x e = record { size = v; value = refl; reads = e }
-size_read NoSize f x e = unread e
+pub size_read : (s : Option ℕ) (f : ℕ → Out) (x : Fault) {rs : List Row} → on_size s f (refused x) ≡ read rs → Sized s f rs
+size_read (Some v) f x e = record { size = v; value = refl; reads = e }
+size_read None f x e = unread e
 
 -- what was read at each place
 pub each_rows : {t : List ℕ} {e : ℕ} {test : Kind → Bool} (reads : ℕ → Out) → ((p : ℕ) (rs : List Row) → reads p ≡ read rs → Rows t e test rs)

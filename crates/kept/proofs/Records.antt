@@ -1,5 +1,6 @@
 -- Records, enums and fixeds; 11, of the names of a record's fields.
 -- Assumes nothing.
+use Rattle.std.specs.Prelude.{Option, Some, Ok}
 use mathlib.Core.Path.{◌≡◌, refl, sym, ap, ◌∙◌}
 use mathlib.Core.Bool.{true, false, not}
 use mathlib.Core.List.{List, [], ◌∷◌, ◌++◌, map, append-nil}
@@ -17,11 +18,8 @@ use Rattle.view.specs.Elements.{elements}
 use Rattle.view.specs.Size.{size_of}
 use Rattle.view.specs.Strings.{string_at}
 use Rattle.view.specs.Members.{members_of}
-use Rattle.view.specs.declared.space.Spot.{Spot}
-use Rattle.view.specs.declared.space.Spot.TheVariants.{At}
 use Rattle.view.specs.declared.members.Members.{Members}
 use Rattle.view.proofs.Laws.{All as Each}
-use Rattle.form.specs.declared.check.Check.TheVariants.{Fine}
 use Rattle.form.specs.declared.forms.Form.{Form}
 use Rattle.form.specs.Checks.{fault, must, ◌then◌, each_of}
 use Rattle.form.specs.Spots.{on_spot, is_text, as_text, as_array, aliases_in, fields_in}
@@ -127,7 +125,7 @@ module _ (t : List ℕ) (short : length t ≤ longest) where
         let v = spot_read m.typed (schema (d + 1)) _ k.1 in
         record {
           place = q;
-          named = ap (λ (x : Spot). on_spot x (λ v. v) f) s.at;
+          named = ap (λ (x : Option ℕ). on_spot x (λ v. v) f) s.at;
           own = simple_own t q x.0;
           default = default_read o k.0;
           front = z.front;
@@ -139,7 +137,7 @@ module _ (t : List ℕ) (short : length t ≤ longest) where
           is = y.is ∙ ap (λ (l : List Row). field_row t d q m.default ∷ l) z.is;
         }
 
-    fields_apart : (d : ℕ) (taken : List (List ℕ)) (fs : List ℕ) {rs : List Row} → Each (Opens t 2 123) fs → field_names_check t taken fs ≡ Fine → each (field_rows schema t (d + 1)) fs ≡ read rs → Fields t d taken rs
+    fields_apart : (d : ℕ) (taken : List (List ℕ)) (fs : List ℕ) {rs : List Row} → Each (Opens t 2 123) fs → field_names_check t taken fs ≡ Ok tt → each (field_rows schema t (d + 1)) fs ≡ read rs → Fields t d taken rs
     unfolding field_names_check each
     fields_apart d taken [] o c e = rw (sym (read_same e)) (record { rows = rows_none; missed = λ a h. nil; apart = two_nil (takes_name d) })
     fields_apart d taken (f ∷ fs) o c e =
@@ -166,7 +164,7 @@ module _ (t : List ℕ) (short : length t ≤ longest) where
   module _ (a : Around) (good : is_namespace a.namespace ≡ true) (f : Form) (d p : ℕ) (m : Members) (heads : head_of t a.namespace f ≡ definition_head t a.namespace m) where
     module _ (schema : Around → ℕ → ℕ → Out) (ff : ℕ → Form)
         (reads : (b : Around) → is_namespace b.namespace ≡ true → (e q : ℕ) → Deep t 0 q → (rs : List Row) → schema b e q ≡ read rs → Schema t b e (ff q) rs)
-        (opened : (v : ℕ) → as_array t m.fields ≡ At v → Each (Opens t 2 123) (fields_in t v)) where
+        (opened : (v : ℕ) → as_array t m.fields ≡ Some v → Each (Opens t 2 123) (fields_in t v)) where
       record_body : (own : List ℕ) → is_namespace own ≡ true → (ys : List Row)
           → on_spot (as_array t m.fields) (λ v. fields_rows (schema (within own)) t (d + 1) (fields_in t v)) (fail FieldsMissing p) ≡ read ys → Body t Record d ys
       record_body own ow ys e =

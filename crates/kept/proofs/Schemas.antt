@@ -1,5 +1,6 @@
 -- A schema that was read: one tree, whose first row is the schema's. Definitions, words, arrays and maps.
 -- Assumes nothing.
+use Rattle.std.specs.Prelude.{Option, Some, None, Ok}
 use mathlib.Core.Path.{◌≡◌, refl, sym, ap, ◌∙◌}
 use mathlib.Core.Bool.{Bool, true, false, cond, ◌||◌}
 use mathlib.Core.List.{List, [], ◌∷◌, ◌++◌}
@@ -17,10 +18,7 @@ use Rattle.row.specs.declared.kind.Kind.{Kind}
 use Rattle.row.specs.declared.kind.Kind.TheVariants.{Bytes, Reference, Record, Enum, Fixed, Alias}
 use Rattle.view.specs.Strings.{string_at}
 use Rattle.view.specs.Members.{members_of}
-use Rattle.view.specs.declared.space.Spot.{Spot}
-use Rattle.view.specs.declared.space.Spot.TheVariants.{At, Nowhere}
 use Rattle.view.specs.declared.members.Members.{Members}
-use Rattle.form.specs.declared.check.Check.TheVariants.{Fine}
 use Rattle.form.specs.declared.forms.Form.{Form}
 use Rattle.form.specs.declared.note.Note.{Note}
 use Rattle.form.specs.Spots.{on_spot, as_text, aliases_in}
@@ -61,7 +59,7 @@ pub record Schema (t : List ℕ) (a : Around) (d : ℕ) (f : Form) (rs : List Ro
   pub kind : is_schema root.kind ≡ true
   pub rows : Rows t d is_schema rs
   pub below : Rows t (d + 1) any_kind kids
-  pub new : union_check t a.namespace a.standing (row_head root) ≡ Fine
+  pub new : union_check t a.namespace a.standing (row_head root) ≡ Ok tt
   pub head : row_head root ≡ head_of t a.namespace f
 
 pub schema_kinds : {t : List ℕ} {a : Around} {d : ℕ} {f : Form} {rs : List Row} (s : Schema t a d f rs) → kinds_at d rs ≡ s.root.kind ∷ []
@@ -72,7 +70,7 @@ schema_kinds {d = d} s = rw (s.is, eq-eqb s.root.depth d s.depth, kinds_deep {d 
 module _ (t : List ℕ) (a : Around) (f : Form) (k : Kind) (d p : ℕ) (s : List ℕ) (size : ℕ) (n : Note) where
   pub schema_tree : {kids : List Row} → is_schema k ≡ true → p < length t → good_text k s ≡ true → good_numbers (row_with k d p s size n) ≡ true
       → Rows t (d + 1) any_kind kids → parts_fit k (kinds_at (d + 1) kids) ≡ true → no_two (clash k d) kids ≡ true
-      → union_check t a.namespace a.standing (row_head (row_with k d p s size n)) ≡ Fine → row_head (row_with k d p s size n) ≡ head_of t a.namespace f
+      → union_check t a.namespace a.standing (row_head (row_with k d p s size n)) ≡ Ok tt → row_head (row_with k d p s size n) ≡ head_of t a.namespace f
       → Schema t a d f (row_with k d p s size n ∷ kids)
   schema_tree {kids = kids} sc w tx nu b fi ap ne he = record {
     root = row_with k d p s size n;
@@ -116,7 +114,7 @@ module _ (t : List ℕ) (short : length t ≤ longest) (a : Around) (good : is_n
       (numbers : (q : ℕ) (s : List ℕ) → q < longest → good_numbers (row_with k d q s size n) ≡ true)
       (body : (own : List ℕ) → is_namespace own ≡ true → (ys : List Row) → rest own ≡ read ys → Body t k d ys)
       (heads : head_of t a.namespace f ≡ definition_head t a.namespace m) where
-    definition_at : (q : ℕ) {rs : List Row} → as_text t m.name ≡ At q → definition_rows t a k d m q size n rest ≡ read rs → Schema t a d f rs
+    definition_at : (q : ℕ) {rs : List Row} → as_text t m.name ≡ Some q → definition_rows t a k d m q size n rest ≡ read rs → Schema t a d f rs
     unfolding definition_rows definition_head
     definition_at q at e =
         let full = defined_at t a.namespace m q in
@@ -149,7 +147,7 @@ module _ (t : List ℕ) (short : length t ≤ longest) (a : Around) (good : is_n
 
   -- ---- primitives and references
 
-  module _ (f : Form) (d q : ℕ) (o : Spot) (heads : head_of t a.namespace f ≡ word_head t a.namespace q (word_kind (string_at t q))) where
+  module _ (f : Form) (d q : ℕ) (o : Option ℕ) (heads : head_of t a.namespace f ≡ word_head t a.namespace q (word_kind (string_at t q))) where
     reference_schema : word_kind (string_at t q) ≡ Reference → {rs : List Row} → reference_rows t a d q ≡ read rs → Schema t a d f rs
     unfolding reference_rows is_schema is_primitive is_named is_definition is_kind parts_fit body_fits past every has_one is_alias_of is_part_of kinds_at
     reference_schema k e =
@@ -168,9 +166,9 @@ module _ (t : List ℕ) (short : length t ≤ longest) (a : Around) (good : is_n
     primitive_note : (k : Kind) → Noted over.Bytes (cond (eqb (kind_number k) (kind_number Bytes)) (on_spot o (λ p. note_of t (members_of t p) over.Bytes) (noted 0)) (noted 0))
     primitive_note k = go (eqb (kind_number k) (kind_number Bytes)) o
       where
-        go : (b : Bool) (s : Spot) → Noted over.Bytes (cond b (on_spot s (λ p. note_of t (members_of t p) over.Bytes) (noted 0)) (noted 0))
-        go true (At p) = note_good t (members_of t p) over.Bytes
-        go true Nowhere = noted_plain over.Bytes 0 (omega arith) (λ (z : 0 ≡ 1). omega arith)
+        go : (b : Bool) (s : Option ℕ) → Noted over.Bytes (cond b (on_spot s (λ p. note_of t (members_of t p) over.Bytes) (noted 0)) (noted 0))
+        go true (Some p) = note_good t (members_of t p) over.Bytes
+        go true None = noted_plain over.Bytes 0 (omega arith) (λ (z : 0 ≡ 1). omega arith)
         go false s = noted_plain over.Bytes 0 (omega arith) (λ (z : 0 ≡ 1). omega arith)
 
     primitive_schema : is_kind Reference (word_kind (string_at t q)) ≡ false → {rs : List Row} → primitive_rows t a d (word_kind (string_at t q)) q o ≡ read rs → Schema t a d f rs
@@ -202,7 +200,7 @@ module _ (t : List ℕ) (short : length t ≤ longest) (a : Around) (good : is_n
   module _ (f : Form) (schema : Around → ℕ → ℕ → Out) (ff : ℕ → Form)
       (reads : (b : Around) → is_namespace b.namespace ≡ true → (e q : ℕ) → Deep t 0 q → (rs : List Row) → schema b e q ≡ read rs → Schema t b e (ff q) rs)
       (k : Kind) (single : Single k) (d p : ℕ) (w : p < length t) (heads : head_of t a.namespace f ≡ unnamed k) where
-    pub part_schema : (part : Spot) → ((q : ℕ) → part ≡ At q → Deep t 1 q) → (x : Fault) {rs : List Row} → part_rows schema t a k d p part (refused x) ≡ read rs → Schema t a d f rs
+    pub part_schema : (part : Option ℕ) → ((q : ℕ) → part ≡ Some q → Deep t 1 q) → (x : Fault) {rs : List Row} → part_rows schema t a k d p part (refused x) ≡ read rs → Schema t a d f rs
     unfolding part_rows
     part_schema part i x e =
         let y = after_read (union_check t a.namespace a.standing (unnamed k)) _ e in

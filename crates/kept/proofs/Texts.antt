@@ -1,5 +1,6 @@
 -- The strings of a row: what was checked of a name is what a kept one keeps, and a name stands within the text.
 -- Assumes nothing.
+use Rattle.std.specs.Prelude.{Option, Some, None, Ok}
 use mathlib.Core.Path.{◌≡◌, refl, sym}
 use mathlib.Core.Bool.{Bool, true, false, not, cond, ◌||◌}
 use mathlib.Core.List.{List, [], ◌∷◌}
@@ -16,11 +17,8 @@ use Rattle.name.proofs.Laws.{full_dotted, namespace_good}
 use Rattle.row.specs.declared.kind.Kind.{Kind}
 use Rattle.row.specs.declared.kind.Kind.TheVariants.{Reference, Field, Symbol, Alias, FieldAlias}
 use Rattle.view.specs.Strings.{bytes_from, string_at}
-use Rattle.view.specs.declared.space.Spot.{Spot}
-use Rattle.view.specs.declared.space.Spot.TheVariants.{At, Nowhere}
 use Rattle.view.specs.declared.members.Members.{Members}
 use Rattle.view.proofs.Laws.{in_text}
-use Rattle.form.specs.declared.check.Check.TheVariants.{Fine}
 use Rattle.form.specs.Checks.{must, ◌then◌}
 use Rattle.form.specs.Spots.{on_spot, as_text}
 use Rattle.form.specs.Names.{not_a_name, kept, unreserved, simple_check, full_at, reference_check, alias_check, namespace_of, defined_at, namespace_check, definition_check}
@@ -64,7 +62,7 @@ pub record Own (t : List ℕ) (q : ℕ) : Type 0 where
   pub keeps : is_own_name (string_at t q) ≡ true
   pub within : q < length t
 
-pub simple_own : (t : List ℕ) (q : ℕ) → simple_check t q ≡ Fine → Own t q
+pub simple_own : (t : List ℕ) (q : ℕ) → simple_check t q ≡ Ok tt → Own t q
 unfolding simple_check is_own_name
 simple_own t q e =
     let z = then_fine (must (is_simple (string_at t q)) (not_a_name is_simple t q)) (kept (string_at t q) q) e in
@@ -83,7 +81,7 @@ pub named_full : {t full : List ℕ} {q : ℕ} → Named t full q → is_full_na
 unfolding is_full_name
 named_full {full = full} n = and_intro (is_short full) (is_dotted full) n.short n.dotted
 
-pub reference_named : (t namespace : List ℕ) (q : ℕ) → is_namespace namespace ≡ true → reference_check t namespace q ≡ Fine → Named t (full_at t namespace q) q
+pub reference_named : (t namespace : List ℕ) (q : ℕ) → is_namespace namespace ≡ true → reference_check t namespace q ≡ Ok tt → Named t (full_at t namespace q) q
 unfolding reference_check full_at
 reference_named t namespace q n e =
     let full = full_name namespace (string_at t q) in
@@ -96,7 +94,7 @@ pub record Free (t full : List ℕ) (q : ℕ) : Type 0 where
   pub named : Named t full q
   pub free : is_reserved full ≡ false
 
-pub alias_free : (t namespace : List ℕ) (q : ℕ) → is_namespace namespace ≡ true → alias_check t namespace q ≡ Fine → Free t (full_at t namespace q) q
+pub alias_free : (t namespace : List ℕ) (q : ℕ) → is_namespace namespace ≡ true → alias_check t namespace q ≡ Ok tt → Free t (full_at t namespace q) q
 unfolding alias_check full_at
 alias_free t namespace q n e =
     let full = full_name namespace (string_at t q) in
@@ -114,20 +112,20 @@ unfolding full_name
 full_any n m s e = rw e
 
 module _ (t enclosing : List ℕ) (m : Members) (q : ℕ) (n : is_namespace enclosing ≡ true) where
-  defined_dotted : is_name (string_at t q) ≡ true → namespace_check t m q ≡ Fine → is_dotted (defined_at t enclosing m q) ≡ true
+  defined_dotted : is_name (string_at t q) ≡ true → namespace_check t m q ≡ Ok tt → is_dotted (defined_at t enclosing m q) ≡ true
   unfolding defined_at full_at namespace_of namespace_check is_namespace is_empty
   defined_dotted a e = go (has_dot (string_at t q)) refl (as_text t m.namespace) e
     where
       s : List ℕ
       s = string_at t q
 
-      go : (x : Bool) → has_dot s ≡ x → (w : Spot) → cond x Fine (on_spot w (λ w. must (is_namespace (string_at t w)) (not_a_name is_namespace t w)) Fine) ≡ Fine
+      go : (x : Bool) → has_dot s ≡ x → (w : Option ℕ) → cond x (Ok tt) (on_spot w (λ w. must (is_namespace (string_at t w)) (not_a_name is_namespace t w)) (Ok tt)) ≡ Ok tt
           → is_dotted (full_name (on_spot w (string_at t) enclosing) s) ≡ true
       go true h w f = rw (full_any (on_spot w (string_at t) enclosing) [] s h) (full_dotted [] s refl a)
-      go false h (At w) f = full_dotted (string_at t w) s (must_true (is_namespace (string_at t w)) _ f) a
-      go false h Nowhere f = full_dotted enclosing s n a
+      go false h (Some w) f = full_dotted (string_at t w) s (must_true (is_namespace (string_at t w)) _ f) a
+      go false h None f = full_dotted enclosing s n a
 
-  pub definition_free : definition_check t enclosing m q ≡ Fine → Free t (defined_at t enclosing m q) q
+  pub definition_free : definition_check t enclosing m q ≡ Ok tt → Free t (defined_at t enclosing m q) q
   unfolding definition_check
   definition_free e =
       let full = defined_at t enclosing m q in

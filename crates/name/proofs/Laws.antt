@@ -1,4 +1,5 @@
 -- The laws of names that callers cite. Assumes nothing.
+use Rattle.std.specs.Prelude.{Option, Some, None}
 use mathlib.Core.Path.{◌≡◌, refl, sym, ap, ◌∙◌}
 use mathlib.Core.Bool.{Bool, true, false, not, cond, ◌&&◌, ◌||◌, and-true, and-false, and_assoc, or-false, or-true, or_assoc, and-eq-true_iff}
 use mathlib.Mathlib.Data.Bool.Basic.{or-eq-false-eq-eq-false-and-eq-false as or-eq-false}
@@ -15,8 +16,6 @@ use Rattle.name.specs.Name.{every, is_empty, is_one_of, is_within, is_letter, is
 use Rattle.ground.specs.Bytes.{same, store}
 use Rattle.ground.proofs.Laws.{length_store, store_fits}
 use Rattle.name.specs.Full.{kept_limit, is_short, answer_of, buffer_after}
-use Rattle.name.specs.declared.qualify.Full.{Full}
-use Rattle.name.specs.declared.qualify.Full.TheVariants.{Fits, TooLong}
 use Rattle.name.proofs.Parts.{never, parted, parts_dot, parts_plain, joined_parts, last_snoc, front_snoc}
 
 -- ---- one of some strings
@@ -370,17 +369,17 @@ length_full namespace s = go (not (has_dot s) && not (is_empty namespace)) (star
 
 module _ (f : List ℕ) where
   -- up to the limit the answer is the length
-  pub answer_short : length f ≤ kept_limit → answer_of f ≡ Fits (length f)
+  pub answer_short : length f ≤ kept_limit → answer_of f ≡ Some (length f)
   unfolding answer_of is_short
   answer_short h = rw (le-leb (length f) kept_limit h)
 
   -- above it is that it is too long
-  pub answer_long : kept_limit < length f → answer_of f ≡ TooLong
+  pub answer_long : kept_limit < length f → answer_of f ≡ None
   unfolding answer_of is_short
   answer_long h = rw (lt-leb (length f) kept_limit h)
 
   -- a length that is answered is that of the full name, and within the limit
-  pub fits_length : (n : ℕ) → answer_of f ≡ Fits n → (n ≡ length f) × (length f ≤ kept_limit)
+  pub fits_length : (n : ℕ) → answer_of f ≡ Some n → (n ≡ length f) × (length f ≤ kept_limit)
   fits_length n e = go (dec_lt kept_limit (length f))
     where
       go : Dec (kept_limit < length f) → (n ≡ length f) × (length f ≤ kept_limit)
@@ -388,7 +387,7 @@ module _ (f : List ℕ) where
       go (no g) = let w = answer_short (omega arith) in let z : n ≡ length f = cc in (z, omega arith)
 
   -- where none is, the full name is longer
-  pub too_long : answer_of f ≡ TooLong → kept_limit < length f
+  pub too_long : answer_of f ≡ None → kept_limit < length f
   too_long e = go (dec_lt kept_limit (length f))
     where
       go : Dec (kept_limit < length f) → kept_limit < length f
@@ -414,8 +413,8 @@ module _ (f : List ℕ) where
         go (yes l) = ap length (buffer_long l)
         go (no g) = ap length (buffer_short (omega arith)) ∙ length_store m 0 f
 
--- after `full_name` has answered `Fits(n)`: r is the answer, m the buffer before and m' the buffer afterwards
-module _ (f m m' : List ℕ) (r : Full) (a : r ≡ answer_of f) (b : m' ≡ buffer_after m f) (n : ℕ) (e : r ≡ Fits n) (h : length m ≡ kept_limit) where
+-- after `full_name` has answered `Some(n)`: r is the answer, m the buffer before and m' the buffer afterwards
+module _ (f m m' : List ℕ) (r : Option ℕ) (a : r ≡ answer_of f) (b : m' ≡ buffer_after m f) (n : ℕ) (e : r ≡ Some n) (h : length m ≡ kept_limit) where
   -- `&out[0..n]` can be lent
   pub fits_room : n ≤ length m'
   fits_room = let z = fits_length f n (sym a ∙ e) in let w = ap length b ∙ buffer_length f m in omega arith

@@ -7,47 +7,44 @@ use crate::has_dot;
 use crate::rule::starts_with_dot;
 use ground::copy;
 
-// What became of a full name: its length, or that it is over the `LONGEST` bytes that are kept of a string.
+// A full name, of which so many bytes at most are kept.
 #[derive(Clone, Copy)]
-pub enum Full {
-    Fits(usize),
-    TooLong,
-}
+pub struct Full {}
 
 impl Full {
     pub const LONGEST: usize = 255;
 }
 
 // A full name that stands in one piece.
-fn keep(s: &[u8], out: &mut [u8; Full::LONGEST]) -> Full
+fn keep(s: &[u8], out: &mut [u8; Full::LONGEST]) -> Option<usize>
     ensures { (result ≡ answer_of s.now) × (out.new ≡ buffer_after out.old s.now) }
 {
     let n = s.len();
     if Full::LONGEST < n {
-        return Full::TooLong;
+        return None;
     }
     copy(out, 0, s);
-    Full::Fits(n)
+    Some(n)
 }
 
 // Namespace, dot, name.
-fn keep_within(namespace: &[u8], s: &[u8], out: &mut [u8; Full::LONGEST]) -> Full
+fn keep_within(namespace: &[u8], s: &[u8], out: &mut [u8; Full::LONGEST]) -> Option<usize>
     ensures { (result ≡ answer_of (namespace.now ++ (dot ∷ s.now))) × (out.new ≡ buffer_after out.old (namespace.now ++ (dot ∷ s.now))) }
 {
     let before = namespace.len();
     let n = before + 1 + s.len();
     if Full::LONGEST < n {
-        return Full::TooLong;
+        return None;
     }
     copy(out, 0, namespace);
     out[before] = b'.';
     copy(out, before + 1, s);
-    Full::Fits(n)
+    Some(n)
 }
 
 // The full name of a name as it is written, in an enclosing namespace. The buffer is as long as the longest that is
 // kept, so there is room for whatever fits, and what does not fit leaves it as it was.
-pub fn full_name(namespace: &[u8], written: &[u8], out: &mut [u8; Full::LONGEST]) -> Full
+pub fn full_name(namespace: &[u8], written: &[u8], out: &mut [u8; Full::LONGEST]) -> Option<usize>
     ensures { (result ≡ answer_of (full_name namespace.now written.now)) × (out.new ≡ buffer_after out.old (full_name namespace.now written.now)) }
 {
     if starts_with_dot(written) {

@@ -48,8 +48,8 @@ fn print_full(stdout: Stdout, namespace: &[u8], s: &[u8]) -> io::Result<()> {
     print!(stdout; " ")?;
     let mut out = [0u8; Full::LONGEST];
     match name::full_name(namespace, s, &mut out) {
-        Full::TooLong => print!(stdout; "!"),
-        Full::Fits(n) => print_bytes(stdout, &out[0..n]),
+        None => print!(stdout; "!"),
+        Some(n) => print_bytes(stdout, &out[0..n]),
     }
 }
 

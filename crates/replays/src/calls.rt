@@ -17,8 +17,8 @@ fn name(stdout: &mut Output, mem: &[u8], place: usize, row: usize, out: &mut [u8
     let name = set::full_name(mem, place, row);
     if name.len() == 0 {
         match set::naming_of(mem, place, row) {
-            Naming::Refused(r) => return put_refusal(stdout, out, 0, r),
-            Naming::Named(_) => {}
+            Err(r) => return put_refusal(stdout, out, 0, r),
+            Ok(_) => {}
         }
     }
     let at = put(stdout, out, 0, b"ok");

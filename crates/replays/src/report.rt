@@ -28,8 +28,8 @@ fn put_counts(stdout: &mut Output, out: &mut [u8], counts: Counts) -> usize {
 
 pub(crate) fn put_answer(stdout: &mut Output, out: &mut [u8], answer: Answer) -> usize {
     match answer {
-        Answer::Done(c) => put_counts(stdout, out, c),
-        Answer::Refused(r) => put_refusal(stdout, out, 0, r),
+        Ok(c) => put_counts(stdout, out, c),
+        Err(r) => put_refusal(stdout, out, 0, r),
     }
 }
 

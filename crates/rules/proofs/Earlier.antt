@@ -1,5 +1,6 @@
 -- The elements that stand before a place: a loop that stops there visits them, and one that goes on has passed them.
 -- Assumes nothing.
+use Rattle.std.specs.Prelude.{Option, Some, None}
 use mathlib.Core.Path.{◌≡◌, refl, sym, ap, subst, ◌∙◌}
 use mathlib.Core.Bool.{Bool, true, false, ◌||◌}
 use mathlib.Core.List.{List, [], ◌∷◌, ◌++◌, append_assoc}
@@ -7,8 +8,6 @@ use Prim.Native.Nat.{ℕ, ◌<◌}
 use native.Mathlib.Omega.{arith}
 use lib.ListN.{length}
 use borrow.Author.Tests.{eq-eqb, ne_eqb}
-use Rattle.view.specs.declared.space.Spot.{Spot}
-use Rattle.view.specs.declared.space.Spot.TheVariants.{At, Nowhere}
 use Rattle.view.specs.Ends.{end_of}
 use Rattle.view.specs.Elements.{first_element, next_element, elements_at, elements}
 use Rattle.view.proofs.Laws.{All, Inside, Ascending, end_ahead, elements_inside, elements_ascend, left_start, left_done, left_next}
@@ -51,17 +50,17 @@ before_end t p = before_all t p (elements t p) (elements_inside t p)
 
 -- ---- a loop that has passed the elements qs of the array at p
 
-pub record Passed (t : List ℕ) (p : ℕ) (s : Spot) (qs : List ℕ) : Type 0 where
+pub record Passed (t : List ℕ) (p : ℕ) (s : Option ℕ) (qs : List ℕ) : Type 0 where
   pub split : elements t p ≡ qs ++ elements_at t s
 
-pub passed_start : (t : List ℕ) (p : ℕ) {s : Spot} → s ≡ first_element t p → Passed t p s []
+pub passed_start : (t : List ℕ) (p : ℕ) {s : Option ℕ} → s ≡ first_element t p → Passed t p s []
 passed_start t p e = record { split = sym (left_start t p e) }
 
-module _ {t : List ℕ} {p : ℕ} {s : Spot} {qs : List ℕ} (h : Passed t p s qs) {q : ℕ} (e : s ≡ At q) where
-  passed_here : {s' : Spot} → s' ≡ next_element t q → elements t p ≡ qs ++ (q ∷ elements_at t s')
+module _ {t : List ℕ} {p : ℕ} {s : Option ℕ} {qs : List ℕ} (h : Passed t p s qs) {q : ℕ} (e : s ≡ Some q) where
+  passed_here : {s' : Option ℕ} → s' ≡ next_element t q → elements t p ≡ qs ++ (q ∷ elements_at t s')
   passed_here f = h.split ∙ ap (λ (l : List ℕ). qs ++ l) (left_next t e f)
 
-  pub passed_next : {s' : Spot} → s' ≡ next_element t q → Passed t p s' (qs ++ (q ∷ []))
+  pub passed_next : {s' : Option ℕ} → s' ≡ next_element t q → Passed t p s' (qs ++ (q ∷ []))
   passed_next {s'} f = record { split = passed_here f ∙ sym (append_assoc qs (q ∷ []) (elements_at t s')) }
 
   pub passed_before : before q (elements t p) ≡ qs
@@ -92,32 +91,32 @@ module _ (k : ℕ → Bool) {x : Bool} where
     some_on g = rw g at some_step
 
   -- a loop over all elements
-  module _ (t : List ℕ) {s : Spot} (inv : some k (elements_at t s) ≡ x) where
-    pub all_done : s ≡ Nowhere → false ≡ x
+  module _ (t : List ℕ) {s : Option ℕ} (inv : some k (elements_at t s) ≡ x) where
+    pub all_done : s ≡ None → false ≡ x
     all_done e = some_none inv (left_done t e)
 
-    module _ {p : ℕ} (e : s ≡ At p) {b : Bool} (f : b ≡ k p) where
+    module _ {p : ℕ} (e : s ≡ Some p) {b : Bool} (f : b ≡ k p) where
       pub all_yes : b ≡ true → true ≡ x
       all_yes g = some_yes inv (left_next t e refl) f g
 
-      pub all_on : b ≡ false → {s' : Spot} → s' ≡ next_element t p → some k (elements_at t s') ≡ x
+      pub all_on : b ≡ false → {s' : Option ℕ} → s' ≡ next_element t p → some k (elements_at t s') ≡ x
       all_on g h = some_on inv (left_next t e h) f g
 
   -- a loop over those before a place
-  module _ (t : List ℕ) (at : ℕ) {s : Spot} (inv : some k (before at (elements_at t s)) ≡ x) where
-    pub some_done : s ≡ Nowhere → false ≡ x
+  module _ (t : List ℕ) (at : ℕ) {s : Option ℕ} (inv : some k (before at (elements_at t s)) ≡ x) where
+    pub some_done : s ≡ None → false ≡ x
     some_done e = some_none inv (ap (before at) (left_done t e) ∙ before_none at)
 
-    module _ {p : ℕ} (e : s ≡ At p) where
+    module _ {p : ℕ} (e : s ≡ Some p) where
       pub some_here : p ≡ at → false ≡ x
       some_here h = some_none inv (ap (before at) (left_next t e refl) ∙ before_here at p (elements_at t (next_element t p)) h)
 
       module _ (h : p ≡ at → ⊥) {b : Bool} (f : b ≡ k p) where
-        step : {s' : Spot} → s' ≡ next_element t p → before at (elements_at t s) ≡ p ∷ before at (elements_at t s')
+        step : {s' : Option ℕ} → s' ≡ next_element t p → before at (elements_at t s) ≡ p ∷ before at (elements_at t s')
         step {s'} g = ap (before at) (left_next t e g) ∙ before_other at p (elements_at t s') h
 
         pub some_found : b ≡ true → true ≡ x
         some_found g = some_yes inv (step refl) f g
 
-        pub some_turn : b ≡ false → {s' : Spot} → s' ≡ next_element t p → some k (before at (elements_at t s')) ≡ x
+        pub some_turn : b ≡ false → {s' : Option ℕ} → s' ≡ next_element t p → some k (before at (elements_at t s')) ≡ x
         some_turn g i = some_on inv (step i) f g

@@ -1,5 +1,6 @@
 -- Strings that are entered in a table of marks as they are passed: the turns of the loops that ask it.
 -- Assumes nothing.
+use Rattle.std.specs.Prelude.{Option, Some, None, Ok, Err}
 use mathlib.Core.Path.{◌≡◌, refl, sym, ap, subst, ◌∙◌}
 use mathlib.Core.Bool.{Bool, true, false, cond}
 use mathlib.Core.List.{List, [], ◌∷◌, ◌++◌, map, map-append, append_assoc, append-nil}
@@ -7,8 +8,6 @@ use Prim.Native.Nat.{ℕ}
 use lib.ListN.{length}
 use Rattle.answer.specs.declared.refusal.Fault.{Fault}
 use Rattle.name.specs.Name.{is_one_of}
-use Rattle.view.specs.declared.space.Spot.{Spot}
-use Rattle.view.specs.declared.space.Spot.TheVariants.{At, Nowhere}
 use Rattle.view.specs.declared.members.Titles.{Titles}
 use Rattle.view.specs.Values.{shape_at}
 use Rattle.view.specs.Strings.{string_at}
@@ -18,9 +17,7 @@ use Rattle.view.specs.Elements.{first_element, next_element, elements_at, elemen
 use Rattle.view.proofs.Laws.{left_start, left_done, left_next}
 use Rattle.seen.specs.Seen.{Sized, is_marked, entered, Holds}
 use Rattle.seen.proofs.Laws.{length_entered, sized_as, holds_none, holds_more, unmarked_new}
-use Rattle.form.specs.declared.check.Check.{Check}
-use Rattle.form.specs.declared.check.Check.TheVariants.{Fine, Bad}
-use Rattle.form.specs.Checks.{◌then◌}
+use Rattle.form.specs.Checks.{◌then◌, Check}
 use Rattle.form.specs.Spots.{on_spot, is_object, as_text, aliases_in, objects_among, fields_in}
 use Rattle.rules.specs.Unions.{before}
 use Rattle.rules.specs.Symbols.{symbols_new}
@@ -49,13 +46,13 @@ unfolding entered_all
 entered_first s ss table e f g = rw (← e, ← f) g
 
 -- a loop that enters what is left
-module _ (t : List ℕ) {s : Spot} (table : List ℕ) {x : List ℕ} (inv : entered_all table (map (string_at t) (elements_at t s)) ≡ x) where
-  pub entered_done : s ≡ Nowhere → table ≡ x
+module _ (t : List ℕ) {s : Option ℕ} (table : List ℕ) {x : List ℕ} (inv : entered_all table (map (string_at t) (elements_at t s)) ≡ x) where
+  pub entered_done : s ≡ None → table ≡ x
   unfolding entered_all
   entered_done e = sym (ap (λ (l : List ℕ). entered_all table (map (string_at t) l)) (left_done t e)) ∙ inv
 
-  pub entered_turn : {p : ℕ} → s ≡ At p → {m : ℕ} → m ≡ mark_of (string_at t p) → {table₁ : List ℕ} → table₁ ≡ entered table m
-      → {s' : Spot} → s' ≡ next_element t p → entered_all table₁ (map (string_at t) (elements_at t s')) ≡ x
+  pub entered_turn : {p : ℕ} → s ≡ Some p → {m : ℕ} → m ≡ mark_of (string_at t p) → {table₁ : List ℕ} → table₁ ≡ entered table m
+      → {s' : Option ℕ} → s' ≡ next_element t p → entered_all table₁ (map (string_at t) (elements_at t s')) ≡ x
   entered_turn {p} e f g {s'} h =
       entered_first (string_at t p) (map (string_at t) (elements_at t s')) table f g refl
       ∙ sym (ap (λ (l : List ℕ). entered_all table (map (string_at t) l)) (left_next t e h))
@@ -63,19 +60,19 @@ module _ (t : List ℕ) {s : Spot} (table : List ℕ) {x : List ℕ} (inv : ente
 
 -- ---- a loop over an array: what the elements that were passed take is entered, and what is left of an answer is the whole
 
-pub record Marked {A : Type 0} (t : List ℕ) (p : ℕ) (s : Spot) (table : List ℕ) (takes : List ℕ → List (List ℕ)) (left : List ℕ → List ℕ → A) (x : A) : Type 0 where
+pub record Marked {A : Type 0} (t : List ℕ) (p : ℕ) (s : Option ℕ) (table : List ℕ) (takes : List ℕ → List (List ℕ)) (left : List ℕ → List ℕ → A) (x : A) : Type 0 where
   pub past : List ℕ
   pub passed : Passed t p s past
   pub held : Holds table (takes past)
   pub sized : Sized table
   pub rest : left past (elements_at t s) ≡ x
 
-module _ {A : Type 0} {t : List ℕ} {p : ℕ} {s : Spot} {table : List ℕ} (takes : List ℕ → List (List ℕ)) (left : List ℕ → List ℕ → A) {x : A}
+module _ {A : Type 0} {t : List ℕ} {p : ℕ} {s : Option ℕ} {table : List ℕ} (takes : List ℕ → List (List ℕ)) (left : List ℕ → List ℕ → A) {x : A}
     (inv : Marked t p s table takes left x) where
-  marked_done : (y : A) → ((qs : List ℕ) → left qs [] ≡ y) → s ≡ Nowhere → y ≡ x
+  marked_done : (y : A) → ((qs : List ℕ) → left qs [] ≡ y) → s ≡ None → y ≡ x
   marked_done y stop e = sym (stop inv.past) ∙ sym (ap (left inv.past) (left_done t e)) ∙ inv.rest
 
-  module _ {q : ℕ} (e : s ≡ At q) where
+  module _ {q : ℕ} (e : s ≡ Some q) where
     marked_held : Holds table (takes (before q (elements t p)))
     marked_held = subst (λ (l : List ℕ). Holds table (takes l)) (sym (passed_before inv.passed e)) inv.held
 
@@ -83,7 +80,7 @@ module _ {A : Type 0} {t : List ℕ} {p : ℕ} {s : Spot} {table : List ℕ} (ta
     module _ {B : Type 0} (one : List ℕ → ℕ → B) (join : B → A → A)
         (step : (qs : List ℕ) (q : ℕ) (ps : List ℕ) → left qs (q ∷ ps) ≡ join (one qs q) (left (qs ++ (q ∷ [])) ps))
         {r : B} (f : r ≡ one (before q (elements t p)) q) where
-      marked_step : {s' : Spot} → s' ≡ next_element t q → join r (left (inv.past ++ (q ∷ [])) (elements_at t s')) ≡ x
+      marked_step : {s' : Option ℕ} → s' ≡ next_element t q → join r (left (inv.past ++ (q ∷ [])) (elements_at t s')) ≡ x
       marked_step {s'} g =
           ap (λ (c : B). join c (left (inv.past ++ (q ∷ [])) (elements_at t s'))) (f ∙ ap (λ (l : List ℕ). one l q) (passed_before inv.passed e))
           ∙ sym (step inv.past q (elements_at t s'))
@@ -91,7 +88,7 @@ module _ {A : Type 0} {t : List ℕ} {p : ℕ} {s : Spot} {table : List ℕ} (ta
           ∙ inv.rest
 
       marked_on : (ss : List (List ℕ)) → takes (inv.past ++ (q ∷ [])) ≡ takes inv.past ++ ss → {table₁ : List ℕ} → table₁ ≡ entered_all table ss
-          → ((y : A) → join r y ≡ y) → {s' : Spot} → s' ≡ next_element t q → Marked t p s' table₁ takes left x
+          → ((y : A) → join r y ≡ y) → {s' : Option ℕ} → s' ≡ next_element t q → Marked t p s' table₁ takes left x
       marked_on ss more h passes {s'} g =
           record {
             past = inv.past ++ (q ∷ []);
@@ -112,24 +109,24 @@ abbrev names_of : List ℕ → List ℕ → List (List ℕ)
 names_of t past = map (string_at t) past
 
 module _ (t : List ℕ) where
-  pub symbols_start : (p : ℕ) {s : Spot} {table : List ℕ} → Sized table → s ≡ first_element t p
+  pub symbols_start : (p : ℕ) {s : Option ℕ} {table : List ℕ} → Sized table → s ≡ first_element t p
       → Marked t p s table (names_of t) (symbols_left t) (symbols_new t [] (elements t p))
   symbols_start p {s} {table} l e =
       record { past = []; passed = passed_start t p e; held = holds_none table; sized = l; rest = ap (symbols_new t []) (left_start t p e) }
 
-  module _ {p : ℕ} {s : Spot} {table : List ℕ} {x : Check} (inv : Marked t p s table (names_of t) (symbols_left t) x) where
-    pub symbols_done : s ≡ Nowhere → Fine ≡ x
-    symbols_done e = marked_done (names_of t) (symbols_left t) inv Fine (symbols_stop t) e
+  module _ {p : ℕ} {s : Option ℕ} {table : List ℕ} {x : Check} (inv : Marked t p s table (names_of t) (symbols_left t) x) where
+    pub symbols_done : s ≡ None → Ok tt ≡ x
+    symbols_done e = marked_done (names_of t) (symbols_left t) inv (Ok tt) (symbols_stop t) e
 
-    module _ {q : ℕ} (e : s ≡ At q) where
+    module _ {q : ℕ} (e : s ≡ Some q) where
       pub symbols_held : Holds table (map (string_at t) (before q (elements t p)))
       symbols_held = marked_held (names_of t) (symbols_left t) inv e
 
       module _ {r : Check} (f : r ≡ symbol_after t (before q (elements t p)) q) where
-        pub symbols_bad : {y : Fault} → r ≡ Bad y → Bad y ≡ x
+        pub symbols_bad : {y : Fault} → r ≡ Err y → Err y ≡ x
         symbols_bad g = rw g at (marked_step (names_of t) (symbols_left t) inv e (symbol_after t) ◌then◌ (symbols_step t) f refl)
 
-        pub symbols_on : r ≡ Fine → {table₁ : List ℕ} → table₁ ≡ entered table (mark_of (string_at t q)) → {s' : Spot} → s' ≡ next_element t q
+        pub symbols_on : r ≡ Ok tt → {table₁ : List ℕ} → table₁ ≡ entered table (mark_of (string_at t q)) → {s' : Option ℕ} → s' ≡ next_element t q
             → Marked t p s' table₁ (names_of t) (symbols_left t) x
         unfolding entered_all
         symbols_on g h i =
@@ -142,7 +139,7 @@ abbrev taken_here : List ℕ → ℕ → List (List ℕ)
 taken_here t q = cond (is_object (shape_at t q)) (taken_by t q) []
 
 module _ (t : List ℕ) where
-  pub fields_start : (p : ℕ) {s : Spot} {table : List ℕ} → Sized table → s ≡ first_element t p
+  pub fields_start : (p : ℕ) {s : Option ℕ} {table : List ℕ} → Sized table → s ≡ first_element t p
       → Marked t p s table (taken_among t) (fields_left t) (field_names_check t [] (fields_in t p))
   unfolding fields_in taken_among
   fields_start p {s} {table} l e =
@@ -154,19 +151,19 @@ module _ (t : List ℕ) where
         rest = ap (λ (l : List ℕ). field_names_check t [] (objects_among t l)) (left_start t p e);
       }
 
-  module _ {p : ℕ} {s : Spot} {table : List ℕ} {x : Check} (inv : Marked t p s table (taken_among t) (fields_left t) x) where
-    pub fields_done : s ≡ Nowhere → Fine ≡ x
-    fields_done e = marked_done (taken_among t) (fields_left t) inv Fine (fields_stop t) e
+  module _ {p : ℕ} {s : Option ℕ} {table : List ℕ} {x : Check} (inv : Marked t p s table (taken_among t) (fields_left t) x) where
+    pub fields_done : s ≡ None → Ok tt ≡ x
+    fields_done e = marked_done (taken_among t) (fields_left t) inv (Ok tt) (fields_stop t) e
 
-    module _ {q : ℕ} (e : s ≡ At q) where
+    module _ {q : ℕ} (e : s ≡ Some q) where
       pub fields_held : Holds table (taken_among t (before q (elements t p)))
       fields_held = marked_held (taken_among t) (fields_left t) inv e
 
       module _ {r : Check} (f : r ≡ field_after t (before q (elements t p)) q) where
-        pub fields_bad : {y : Fault} → r ≡ Bad y → Bad y ≡ x
+        pub fields_bad : {y : Fault} → r ≡ Err y → Err y ≡ x
         fields_bad g = rw g at (marked_step (taken_among t) (fields_left t) inv e (field_after t) ◌then◌ (fields_step t) f refl)
 
-        pub fields_on : r ≡ Fine → {table₁ : List ℕ} → table₁ ≡ entered_all table (taken_here t q) → {s' : Spot} → s' ≡ next_element t q
+        pub fields_on : r ≡ Ok tt → {table₁ : List ℕ} → table₁ ≡ entered_all table (taken_here t q) → {s' : Option ℕ} → s' ≡ next_element t q
             → Marked t p s' table₁ (taken_among t) (fields_left t) x
         fields_on g h i =
             marked_on (taken_among t) (fields_left t) inv e (field_after t) ◌then◌ (fields_step t) f (taken_here t q)
@@ -183,5 +180,5 @@ module _ (t : List ℕ) where
     unfolding taken_by
     entered_names f {m} d {n} g h =
         h ∙ ap (λ (k : ℕ). entered_all table (string_at t k ∷ map (string_at t) (aliases_in t m.aliases))) (name_of t q d g)
-        ∙ ap (λ (s : Spot). entered_all table (string_at t (field_name_at t q) ∷ map (string_at t) (aliases_in t s))) (aliases_of t q d)
+        ∙ ap (λ (s : Option ℕ). entered_all table (string_at t (field_name_at t q) ∷ map (string_at t) (aliases_in t s))) (aliases_of t q d)
         ∙ rw (← e, f)

@@ -1,5 +1,6 @@
 -- What tells the members of a union apart: one law for each way out of the code, and the turns of its loops.
 -- Assumes nothing.
+use Rattle.std.specs.Prelude.{Option, Some, None, Ok, Err}
 use mathlib.Core.Path.{◌≡◌, refl, sym, ap, ap₂, ◌∙◌}
 use mathlib.Core.Bool.{Bool, true, false, not, cond, ◌&&◌, ◌||◌}
 use mathlib.Core.List.{List, [], ◌∷◌}
@@ -14,28 +15,22 @@ use Rattle.answer.specs.declared.refusal.Fault.{Fault}
 use Rattle.answer.specs.declared.refusal.Why.TheVariants.{UnionRuleBroken}
 use Rattle.ground.specs.Bytes.{same, store}
 use Rattle.ground.proofs.Laws.{same_unlike, store_fits}
-use Rattle.name.specs.declared.qualify.Full.{Full}
-use Rattle.name.specs.declared.qualify.Full.TheVariants.{Fits, TooLong}
 use Rattle.name.specs.Name.{is_empty, has_dot, starts_with_dot, full_name}
 use Rattle.name.specs.Full.{kept_limit, answer_of, buffer_after}
 use Rattle.name.proofs.Laws.{length_full, answer_long, too_long, buffer_length, buffer_long, fits_room, fits_front}
 use Rattle.row.specs.Kinds.{kind_number}
 use Rattle.row.specs.declared.kind.Kind.{Kind}
 use Rattle.row.specs.declared.kind.Kind.TheVariants.{Null, Boolean, Int, Long, Float, Double, Bytes, String, Reference, Array, Map, Union, Record, Enum, Fixed, Field, Symbol, Alias, FieldAlias}
-use Rattle.view.specs.declared.space.Spot.{Spot}
-use Rattle.view.specs.declared.space.Spot.TheVariants.{At, Nowhere}
 use Rattle.view.specs.declared.members.Members.{Members}
 use Rattle.view.specs.Elements.{elements}
 use Rattle.view.specs.Strings.{string_at}
 use Rattle.view.specs.Members.{members_of}
-use Rattle.form.specs.declared.check.Check.{Check}
-use Rattle.form.specs.declared.check.Check.TheVariants.{Fine, Bad}
 use Rattle.form.specs.declared.forms.Form.{Form}
 use Rattle.form.specs.declared.forms.Form.TheVariants as form
 use Rattle.form.specs.declared.forms.Found.{Found}
 use Rattle.rules.specs.declared.standing.Standing.{Standing}
 use Rattle.rules.specs.declared.standing.Standing.TheVariants.{Alone, MemberOf}
-use Rattle.form.specs.Checks.{fault, must}
+use Rattle.form.specs.Checks.{fault, must, Check}
 use Rattle.form.specs.Spots.{on_spot, as_text}
 use Rattle.form.specs.Names.{full_at, namespace_of, defined_at}
 use Rattle.form.specs.Forms.{form_of, word_kind, found_of}
@@ -96,7 +91,7 @@ module _ (t : List ℕ) (q : ℕ) {k : Kind} (e : k ≡ word_kind (string_at t q
       rw (ne_eqb (kind_number (word_kind (string_at t q))) 16 (λ z. g (number_word ∙ z ∙ sym h))) number_word
 
   -- the head of a string, in a namespace: by its full name, or by the number of its kind
-  pub apart_reference : (namespace : List ℕ) {r : ℕ} → r ≡ 16 → n ≡ r → {a : Full} (m : List ℕ) {m' : List ℕ}
+  pub apart_reference : (namespace : List ℕ) {r : ℕ} → r ≡ 16 → n ≡ r → {a : Option ℕ} (m : List ℕ) {m' : List ℕ}
       → (a ≡ answer_of (full_at t namespace q)) × (m' ≡ buffer_after m (full_at t namespace q)) → {x : Apart} → x ≡ by_name a
       → (x ≡ apart_of (word_head t namespace q (word_kind (string_at t q)))) × (m' ≡ name_after m (word_head t namespace q (word_kind (string_at t q))))
   unfolding apart_of name_after
@@ -111,7 +106,7 @@ module _ (t : List ℕ) (q : ℕ) {k : Kind} (e : k ≡ word_kind (string_at t q
 
 -- the head of a form, by its case
 module _ (t namespace : List ℕ) where
-  pub head_word : (q : ℕ) (o : Spot) → head_of t namespace (form.Word q o) ≡ word_head t namespace q (word_kind (string_at t q))
+  pub head_word : (q : ℕ) (o : Option ℕ) → head_of t namespace (form.Word q o) ≡ word_head t namespace q (word_kind (string_at t q))
   unfolding head_of
   head_word q o = refl
 
@@ -149,9 +144,9 @@ module _ (t namespace : List ℕ) where
   unfolding definition_head
   definition_number m = go (as_text t m.name)
     where
-      go : (s : Spot) → head_number (on_spot s (λ q. called (defined_at t namespace m q)) (called [])) ≡ 0
-      go (At q) = refl
-      go Nowhere = refl
+      go : (s : Option ℕ) → head_number (on_spot s (λ q. called (defined_at t namespace m q)) (called [])) ≡ 0
+      go (Some q) = refl
+      go None = refl
 
 -- the kind that tells is the same in all namespaces
 word_free : (t namespace : List ℕ) (q : ℕ) (k : Kind) → head_number (word_head t [] q k) ≡ head_number (word_head t namespace q k)
@@ -184,12 +179,12 @@ full_shrinks namespace s = go (not (has_dot s) && not (is_empty namespace)) (sta
     go false false e = omega arith
 
 module _ (t namespace : List ℕ) (q : ℕ) (m : List ℕ) where
-  pub full_is : {u w : List ℕ} → u ≡ namespace → w ≡ string_at t q → {a : Full} {m' : List ℕ} → (a ≡ answer_of (full_name u w)) × (m' ≡ buffer_after m (full_name u w))
+  pub full_is : {u w : List ℕ} → u ≡ namespace → w ≡ string_at t q → {a : Option ℕ} {m' : List ℕ} → (a ≡ answer_of (full_name u w)) × (m' ≡ buffer_after m (full_name u w))
       → (a ≡ answer_of (full_at t namespace q)) × (m' ≡ buffer_after m (full_at t namespace q))
   unfolding full_at
   full_is d e f = rw (← d, ← e) f
 
-  pub full_long : {n : ℕ} → n ≡ length (string_at t q) → kept_limit + 1 < n → (TooLong ≡ answer_of (full_at t namespace q)) × (m ≡ buffer_after m (full_at t namespace q))
+  pub full_long : {n : ℕ} → n ≡ length (string_at t q) → kept_limit + 1 < n → (None ≡ answer_of (full_at t namespace q)) × (m ≡ buffer_after m (full_at t namespace q))
   unfolding full_at
   full_long e l =
       let z = full_shrinks namespace (string_at t q) in
@@ -207,27 +202,27 @@ unfolding full_name has_dot starts_with_dot is_empty
 full_none = refl
 
 -- of a definition
-module _ (t enclosing : List ℕ) (m : Members) (p : ℕ) {z : Spot} (h : z ≡ as_text t m.namespace) where
-  full_in : {z' : Spot} → z ≡ z' → full_at t (on_spot z' (string_at t) enclosing) p ≡ defined_at t enclosing m p
+module _ (t enclosing : List ℕ) (m : Members) (p : ℕ) {z : Option ℕ} (h : z ≡ as_text t m.namespace) where
+  full_in : {z' : Option ℕ} → z ≡ z' → full_at t (on_spot z' (string_at t) enclosing) p ≡ defined_at t enclosing m p
   unfolding defined_at namespace_of
-  full_in i = ap (λ (x : Spot). full_at t (on_spot x (string_at t) enclosing) p) (sym i ∙ h)
+  full_in i = ap (λ (x : Option ℕ). full_at t (on_spot x (string_at t) enclosing) p) (sym i ∙ h)
 
-module _ (t enclosing : List ℕ) (m : Members) (b : List ℕ) {b' : List ℕ} {a : Full} {s : Spot} (e : s ≡ as_text t m.name) where
-  named : {s' : Spot} → s ≡ s' → (a ≡ answer_of (on_spot s' (defined_at t enclosing m) [])) × (b' ≡ buffer_after b (on_spot s' (defined_at t enclosing m) []))
+module _ (t enclosing : List ℕ) (m : Members) (b : List ℕ) {b' : List ℕ} {a : Option ℕ} {s : Option ℕ} (e : s ≡ as_text t m.name) where
+  named : {s' : Option ℕ} → s ≡ s' → (a ≡ answer_of (on_spot s' (defined_at t enclosing m) [])) × (b' ≡ buffer_after b (on_spot s' (defined_at t enclosing m) []))
       → (a ≡ answer_of (name_of t enclosing m)) × (b' ≡ buffer_after b (name_of t enclosing m))
   unfolding name_of
   named g h = rw (← e, g) h
 
-  pub named_none : s ≡ Nowhere → (a ≡ answer_of (full_name [] [])) × (b' ≡ buffer_after b (full_name [] []))
+  pub named_none : s ≡ None → (a ≡ answer_of (full_name [] [])) × (b' ≡ buffer_after b (full_name [] []))
       → (a ≡ answer_of (name_of t enclosing m)) × (b' ≡ buffer_after b (name_of t enclosing m))
   named_none g h = named g (h.0 ∙ ap answer_of full_none, h.1 ∙ ap (buffer_after b) full_none)
 
-  module _ {p : ℕ} (g : s ≡ At p) {z : Spot} (h : z ≡ as_text t m.namespace) where
-    pub named_in : z ≡ Nowhere → (a ≡ answer_of (full_at t enclosing p)) × (b' ≡ buffer_after b (full_at t enclosing p))
+  module _ {p : ℕ} (g : s ≡ Some p) {z : Option ℕ} (h : z ≡ as_text t m.namespace) where
+    pub named_in : z ≡ None → (a ≡ answer_of (full_at t enclosing p)) × (b' ≡ buffer_after b (full_at t enclosing p))
         → (a ≡ answer_of (name_of t enclosing m)) × (b' ≡ buffer_after b (name_of t enclosing m))
     named_in i j = named g (j.0 ∙ ap answer_of (full_in t enclosing m p h i), j.1 ∙ ap (buffer_after b) (full_in t enclosing m p h i))
 
-    pub named_within : {q : ℕ} → z ≡ At q → (a ≡ answer_of (full_at t (string_at t q) p)) × (b' ≡ buffer_after b (full_at t (string_at t q) p))
+    pub named_within : {q : ℕ} → z ≡ Some q → (a ≡ answer_of (full_at t (string_at t q) p)) × (b' ≡ buffer_after b (full_at t (string_at t q) p))
         → (a ≡ answer_of (name_of t enclosing m)) × (b' ≡ buffer_after b (name_of t enclosing m))
     named_within i j = named g (j.0 ∙ ap answer_of (full_in t enclosing m p h i), j.1 ∙ ap (buffer_after b) (full_in t enclosing m p h i))
 
@@ -237,11 +232,11 @@ module _ (m : List ℕ) {m' : List ℕ} {x : Apart} where
   pub apart_is : {g h : Head} → g ≡ h → (x ≡ apart_of g) × (m' ≡ name_after m g) → (x ≡ apart_of h) × (m' ≡ name_after m h)
   apart_is e f = rw (← e) f
 
-  pub apart_called : {a : Full} (s : List ℕ) → (a ≡ answer_of s) × (m' ≡ buffer_after m s) → x ≡ by_name a → (x ≡ apart_of (called s)) × (m' ≡ name_after m (called s))
+  pub apart_called : {a : Option ℕ} (s : List ℕ) → (a ≡ answer_of s) × (m' ≡ buffer_after m s) → x ≡ by_name a → (x ≡ apart_of (called s)) × (m' ≡ name_after m (called s))
   unfolding apart_of name_after
   apart_called s e f = (f ∙ ap by_name e.0, e.1)
 
-pub apart_none : (m : List ℕ) {a : Full} {m' : List ℕ} {x : Apart} → (a ≡ answer_of (full_name [] [])) × (m' ≡ buffer_after m (full_name [] [])) → x ≡ by_name a
+pub apart_none : (m : List ℕ) {a : Option ℕ} {m' : List ℕ} {x : Apart} → (a ≡ answer_of (full_name [] [])) × (m' ≡ buffer_after m (full_name [] [])) → x ≡ by_name a
     → (x ≡ apart_of (called [])) × (m' ≡ name_after m (called []))
 apart_none m e f = apart_called m [] (e.0 ∙ ap answer_of full_none, e.1 ∙ ap (buffer_after m) full_none) f
 
@@ -253,18 +248,18 @@ pub definition_called : (t namespace : List ℕ) (m : Members) → called (name_
 unfolding name_of definition_head
 definition_called t namespace m = go (as_text t m.name)
   where
-    go : (s : Spot) → called (on_spot s (defined_at t namespace m) []) ≡ on_spot s (λ q. called (defined_at t namespace m q)) (called [])
-    go (At q) = refl
-    go Nowhere = refl
+    go : (s : Option ℕ) → called (on_spot s (defined_at t namespace m) []) ≡ on_spot s (λ q. called (defined_at t namespace m q)) (called [])
+    go (Some q) = refl
+    go None = refl
 
 -- by the answer: a full name that is in the buffer, one that is too long, a kind
 module _ (m : List ℕ) {m' : List ℕ} (l : length m' ≡ kept_limit) where
-  name_full : (s : List ℕ) → m' ≡ buffer_after m s → (a : Full) → answer_of s ≡ a → {n : ℕ} → by_name a ≡ apart.Name n → (n ≤ length m') × (take (n - 0) (drop 0 m') ≡ s)
-  name_full s e (Fits j) f {n} g =
+  name_full : (s : List ℕ) → m' ≡ buffer_after m s → (a : Option ℕ) → answer_of s ≡ a → {n : ℕ} → by_name a ≡ apart.Name n → (n ≤ length m') × (take (n - 0) (drop 0 m') ≡ s)
+  name_full s e (Some j) f {n} g =
       let h : j ≡ n = cc in
       let k : length m ≡ kept_limit = sym (ap length e ∙ buffer_length s m) ∙ l in
-      (fits_room s m m' (answer_of s) refl e n (f ∙ ap Fits h) k, fits_front s m m' (answer_of s) refl e n (f ∙ ap Fits h) k)
-  name_full s e TooLong f g = let z : ◌≡◌ {A = ℕ} 0 1 = cc in absurd (omega arith)
+      (fits_room s m m' (answer_of s) refl e n (f ∙ ap Some h) k, fits_front s m m' (answer_of s) refl e n (f ∙ ap Some h) k)
+  name_full s e None f g = let z : ◌≡◌ {A = ℕ} 0 1 = cc in absurd (omega arith)
 
   pub apart_name : (h : Head) {x : Apart} → (x ≡ apart_of h) × (m' ≡ name_after m h) → {n : ℕ} → x ≡ apart.Name n → (n ≤ length m') × (called (take (n - 0) (drop 0 m')) ≡ h)
   unfolding apart_of name_after
@@ -280,9 +275,9 @@ module _ (h : Head) (name : List ℕ) {x : Apart} (e : x ≡ apart_of h) where
   unfolding clash apart_of
   clash_kinded {k} f = go h (sym e ∙ f)
     where
-      named : (a : Full) → by_name a ≡ apart.Kind k → ⊥
-      named (Fits n) g = let z : ◌≡◌ {A = ℕ} 0 1 = cc in omega arith
-      named TooLong g = let z : ◌≡◌ {A = ℕ} 0 1 = cc in omega arith
+      named : (a : Option ℕ) → by_name a ≡ apart.Kind k → ⊥
+      named (Some n) g = let z : ◌≡◌ {A = ℕ} 0 1 = cc in omega arith
+      named None g = let z : ◌≡◌ {A = ℕ} 0 1 = cc in omega arith
 
       go : (h : Head) → apart_of h ≡ apart.Kind k → false ≡ clash h (called name)
       go (unnamed j) g = refl
@@ -292,9 +287,9 @@ module _ (h : Head) (name : List ℕ) {x : Apart} (e : x ≡ apart_of h) where
   unfolding clash apart_of
   clash_long l f = go h (sym e ∙ f)
     where
-      long : (s : List ℕ) (a : Full) → answer_of s ≡ a → by_name a ≡ apart.LongName → false ≡ same s name
-      long s (Fits n) g i = let z : ◌≡◌ {A = ℕ} 0 1 = cc in absurd (omega arith)
-      long s TooLong g i = let z = too_long s g in sym (same_unlike s name (λ (j : length s ≡ length name). omega arith))
+      long : (s : List ℕ) (a : Option ℕ) → answer_of s ≡ a → by_name a ≡ apart.LongName → false ≡ same s name
+      long s (Some n) g i = let z : ◌≡◌ {A = ℕ} 0 1 = cc in absurd (omega arith)
+      long s None g i = let z = too_long s g in sym (same_unlike s name (λ (j : length s ≡ length name). omega arith))
 
       go : (h : Head) → apart_of h ≡ apart.LongName → false ≡ clash h (called name)
       go (unnamed j) g = let z : ◌≡◌ {A = ℕ} 0 1 = cc in absurd (omega arith)
@@ -334,12 +329,12 @@ kind_some_new t namespace k {n} e (p ∷ ps) =
 -- ---- the rule
 
 module _ (t namespace : List ℕ) {s : Standing} where
-  pub alone_fine : (h : Head) → s ≡ Alone → Fine ≡ union_check t namespace s h
+  pub alone_fine : (h : Head) → s ≡ Alone → Ok tt ≡ union_check t namespace s h
   unfolding union_check
   alone_fine h e = rw e
 
   module _ {u p : ℕ} (e : s ≡ MemberOf u p) where
-    pub union_in_union : (k : Kind) {n m : ℕ} → n ≡ kind_number k → m ≡ 26 → n ≡ m → Bad (fault UnionRuleBroken p) ≡ union_check t namespace s (unnamed k)
+    pub union_in_union : (k : Kind) {n m : ℕ} → n ≡ kind_number k → m ≡ 26 → n ≡ m → Err (fault UnionRuleBroken p) ≡ union_check t namespace s (unnamed k)
     unfolding union_check
     union_in_union k f g h = rw (e, eq-eqb (kind_number k) 26 (sym f ∙ h ∙ g))
 

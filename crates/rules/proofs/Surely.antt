@@ -1,5 +1,6 @@
 -- The members of a union that are surely new: what a mark that is not there says of a head, and the turns of the loop over the members.
 -- Assumes nothing.
+use Rattle.std.specs.Prelude.{Option, Some, None, Ok}
 use mathlib.Core.Path.{◌≡◌, refl, sym, ap, subst, ◌∙◌}
 use mathlib.Core.Bool.{Bool, true, false, not, ◌&&◌}
 use mathlib.Core.List.{List, [], ◌∷◌, ◌++◌, map, map-append, append-nil}
@@ -12,19 +13,14 @@ use Rattle.ground.specs.Bytes.{same}
 use Rattle.ground.proofs.Laws.{never, and_true, same_true, same_refl}
 use Rattle.name.specs.Name.{is_one_of}
 use Rattle.name.specs.Full.{answer_of}
-use Rattle.name.specs.declared.qualify.Full.{Full}
-use Rattle.name.specs.declared.qualify.Full.TheVariants.{Fits, TooLong}
 use Rattle.row.specs.Kinds.{kind_number}
 use Rattle.row.specs.declared.kind.Kind.TheVariants.{Union}
-use Rattle.view.specs.declared.space.Spot.{Spot}
-use Rattle.view.specs.declared.space.Spot.TheVariants.{At, Nowhere}
 use Rattle.view.specs.Ends.{end_of}
 use Rattle.view.specs.Elements.{first_element, next_element, elements_at, elements}
 use Rattle.view.specs.Marks.{mark_of}
 use Rattle.view.proofs.Laws.{All, Ascending, end_ahead, elements_ascend, left_done, left_next}
 use Rattle.seen.specs.Seen.{Sized, is_marked, entered, Holds}
 use Rattle.seen.proofs.Laws.{length_entered, sized_as, holds_none, holds_more, surely_new}
-use Rattle.form.specs.declared.check.Check.TheVariants.{Fine}
 use Rattle.form.specs.Forms.{form_of}
 use Rattle.rules.specs.declared.standing.Standing.TheVariants.{Alone, MemberOf}
 use Rattle.rules.specs.declared.unions.Apart.{Apart}
@@ -67,9 +63,9 @@ unfolding apart_of key_of
 kinded (unnamed k) e {n} f = let z : n ≡ kind_number k = cc in (ap (λ (i : ℕ). i ∷ []) z, ap (λ (i : ℕ). eqb i (kind_number Union)) z)
 kinded (called s) e {n} f = absurd (go (answer_of s) (sym e ∙ f))
   where
-    go : (a : Full) → by_name a ≡ apart.Kind n → ⊥
-    go (Fits k) g = let z : ◌≡◌ {A = ℕ} 0 1 = cc in omega arith
-    go TooLong g = let z : ◌≡◌ {A = ℕ} 0 1 = cc in omega arith
+    go : (a : Option ℕ) → by_name a ≡ apart.Kind n → ⊥
+    go (Some k) g = let z : ◌≡◌ {A = ℕ} 0 1 = cc in omega arith
+    go None g = let z : ◌≡◌ {A = ℕ} 0 1 = cc in omega arith
 
 named : (h : Head) {s : List ℕ} → called s ≡ h → (s ≡ key_of h) × (false ≡ is_union h)
 unfolding key_of
@@ -77,7 +73,7 @@ named h e = rw (← e) (refl, refl)
 
 module _ (t namespace : List ℕ) (u q : ℕ) where
   -- a head that is that of no union, and new
-  passes : (h : Head) → head_of t namespace (form_of t q) ≡ h → false ≡ is_union h → is_new t namespace h (before q (elements t u)) ≡ true → member_check t namespace u q ≡ Fine
+  passes : (h : Head) → head_of t namespace (form_of t q) ≡ h → false ≡ is_union h → is_new t namespace h (before q (elements t u)) ≡ true → member_check t namespace u q ≡ Ok tt
   unfolding union_check
   passes h e f g = rw (e, ← f, g)
 
@@ -118,14 +114,14 @@ module _ (t namespace : List ℕ) (u q : ℕ) {table table' : List ℕ} where
 
 -- ---- all members, in order
 
-pub record Going (t namespace : List ℕ) (u : ℕ) (s : Spot) (table : List ℕ) : Type 0 where
+pub record Going (t namespace : List ℕ) (u : ℕ) (s : Option ℕ) (table : List ℕ) : Type 0 where
   pub past : List ℕ
   pub passed : Passed t u s past
   pub held : Holds table (map (key_at t namespace) past)
   pub sized : Sized table
-  pub fine : All (λ q. member_check t namespace u q ≡ Fine) past
+  pub fine : All (λ q. member_check t namespace u q ≡ Ok tt) past
 
-pub going_start : (t namespace : List ℕ) (u : ℕ) {s : Spot} {table : List ℕ} → Sized table → s ≡ first_element t u → Going t namespace u s table
+pub going_start : (t namespace : List ℕ) (u : ℕ) {s : Option ℕ} {table : List ℕ} → Sized table → s ≡ first_element t u → Going t namespace u s table
 going_start t namespace u {s} {table} l e = record { past = []; passed = passed_start t u e; held = holds_none table; sized = l; fine = tt }
 
 all_snoc : (P : ℕ → Type 0) (qs : List ℕ) (q : ℕ) → All P qs → P q → All P (qs ++ (q ∷ []))
@@ -134,7 +130,7 @@ all_snoc P (x ∷ qs) q a b = (a.0, all_snoc P qs q a.1 b)
 
 module _ (t namespace : List ℕ) (u : ℕ) where
   -- where all are fine any place will do
-  sure_all : (place : ℕ) (qs : List ℕ) → All (λ q. member_check t namespace u q ≡ Fine) qs → SureOf t namespace u place qs
+  sure_all : (place : ℕ) (qs : List ℕ) → All (λ q. member_check t namespace u q ≡ Ok tt) qs → SureOf t namespace u place qs
   sure_all place [] a = tt
   sure_all place (q ∷ qs) a = (λ l. a.0, sure_all place qs a.1)
 
@@ -142,7 +138,7 @@ module _ (t namespace : List ℕ) (u : ℕ) where
   sure_behind place [] a = tt
   sure_behind place (q ∷ qs) a = let b = end_ahead t place in let c = a.0 in (λ (l : q < place). absurd (omega arith), sure_behind place qs a.1)
 
-  sure_seam : (qs : List ℕ) (q : ℕ) (rest : List ℕ) → All (λ q. member_check t namespace u q ≡ Fine) qs → Ascending t (qs ++ (q ∷ rest)) → SureOf t namespace u q (qs ++ (q ∷ rest))
+  sure_seam : (qs : List ℕ) (q : ℕ) (rest : List ℕ) → All (λ q. member_check t namespace u q ≡ Ok tt) qs → Ascending t (qs ++ (q ∷ rest)) → SureOf t namespace u q (qs ++ (q ∷ rest))
   sure_seam [] q rest a b = (λ (l : q < q). absurd (omega arith), sure_behind q rest b.0)
   sure_seam (x ∷ qs) q rest a b = (λ l. a.0, sure_seam qs q rest a.1 b.1)
 
@@ -153,13 +149,13 @@ module _ (t namespace : List ℕ) (u : ℕ) where
       go [] = tt
       go (q ∷ qs) = (λ (l : q < 0). absurd (omega arith), go qs)
 
-  module _ {s : Spot} {table : List ℕ} (inv : Going t namespace u s table) where
-    pub going_done : s ≡ Nowhere → Sure t namespace u (length t)
+  module _ {s : Option ℕ} {table : List ℕ} (inv : Going t namespace u s table) where
+    pub going_done : s ≡ None → Sure t namespace u (length t)
     going_done e =
         let z : elements t u ≡ inv.past = inv.passed.split ∙ ap (λ (l : List ℕ). inv.past ++ l) (left_done t e) ∙ append-nil inv.past in
         record { sure = subst (λ (l : List ℕ). SureOf t namespace u (length t) l) (sym z) (sure_all (length t) inv.past inv.fine) }
 
-    module _ {q : ℕ} (e : s ≡ At q) where
+    module _ {q : ℕ} (e : s ≡ Some q) where
       pub going_held : Holds table (map (key_at t namespace) (before q (elements t u)))
       going_held = subst (λ (l : List ℕ). Holds table (map (key_at t namespace) l)) (sym (passed_before inv.passed e)) inv.held
 
@@ -171,7 +167,7 @@ module _ (t namespace : List ℕ) (u : ℕ) where
                 (sure_seam inv.past q (elements_at t (next_element t q)) inv.fine (subst (λ (l : List ℕ). Ascending t l) z (elements_ascend t u)));
           }
 
-      pub going_on : {table₁ : List ℕ} {r : Bool} → Enters t namespace u q table table₁ r → r ≡ true → {s' : Spot} → s' ≡ next_element t q → Going t namespace u s' table₁
+      pub going_on : {table₁ : List ℕ} {r : Bool} → Enters t namespace u q table table₁ r → r ≡ true → {s' : Option ℕ} → s' ≡ next_element t q → Going t namespace u s' table₁
       going_on {table₁} {r} h i {s'} j = go r h i
         where
           go : (r : Bool) → Enters t namespace u q table table₁ r → r ≡ true → Going t namespace u s' table₁
@@ -184,7 +180,7 @@ module _ (t namespace : List ℕ) (u : ℕ) where
                 passed = passed_next inv.passed e j;
                 held = rw (m, f.1) (holds_more inv.held (key_at t namespace q) inv.sized.some);
                 sized = sized_as inv.sized (ap length f.1 ∙ length_entered table (mark_of (key_at t namespace q)));
-                fine = all_snoc (λ q. member_check t namespace u q ≡ Fine) inv.past q inv.fine f.0;
+                fine = all_snoc (λ q. member_check t namespace u q ≡ Ok tt) inv.past q inv.fine f.0;
               }
 
 -- ---- what is answered

@@ -1,6 +1,6 @@
 -- Field names in order: refused if equal to an earlier field's name or alias; an alias equal to an earlier name is let through.
 -- Assumes nothing.
-use Rattle.std.specs.Prelude.{ℕ, not, cond, List, [], ◌∷◌, ◌++◌, map}
+use Rattle.std.specs.Prelude.{ℕ, not, cond, List, [], ◌∷◌, ◌++◌, map, Ok}
 use Rattle.answer.specs.declared.refusal.Why.TheVariants.{FieldNameTaken}
 use Rattle.name.specs.Name.{is_one_of}
 use Rattle.view.specs.Values.{shape_at}
@@ -8,9 +8,7 @@ use Rattle.view.specs.Strings.{string_at}
 use Rattle.view.specs.Members.{members_of}
 use Rattle.view.specs.Marks.{mark_of}
 use Rattle.seen.specs.Seen.{entered}
-use Rattle.form.specs.declared.check.Check.{Check}
-use Rattle.form.specs.declared.check.Check.TheVariants.{Fine}
-use Rattle.form.specs.Checks.{fault, must, ◌then◌}
+use Rattle.form.specs.Checks.{fault, must, ◌then◌, Check}
 use Rattle.form.specs.Spots.{on_spot, is_object, as_text, aliases_in}
 
 -- where the name of the field at f is, and the name
@@ -26,7 +24,7 @@ taken_by t f = field_name t f ∷ map (string_at t) (aliases_in t (members_of t 
 
 -- the fields fs, behind fields that took these names
 unfoldable pub field_names_check : List ℕ → List (List ℕ) → List ℕ → Check
-field_names_check t taken [] = Fine
+field_names_check t taken [] = Ok tt
 field_names_check t taken (f ∷ fs) =
     must (not (is_one_of taken (field_name t f))) (fault FieldNameTaken (field_name_at t f))
     then field_names_check t (taken ++ taken_by t f) fs

@@ -1,16 +1,15 @@
 -- What the code holds on its way over the members of a union, to find those that are surely new.
 -- Assumes nothing.
-use Rattle.std.specs.Prelude.{ℕ, ◌<◌, ◌≡◌, Bool, true, false, cond, List, [], ◌∷◌, ltb}
+use Rattle.std.specs.Prelude.{ℕ, ◌<◌, ◌≡◌, Bool, true, false, cond, List, [], ◌∷◌, ltb, Ok}
 use Rattle.row.specs.Kinds.{kind_number}
 use Rattle.view.specs.Elements.{elements}
 use Rattle.view.specs.Marks.{mark_of}
 use Rattle.seen.specs.Seen.{entered}
-use Rattle.form.specs.declared.check.Check.{Check}
-use Rattle.form.specs.declared.check.Check.TheVariants.{Fine}
 use Rattle.form.specs.Forms.{form_of}
 use Rattle.rules.specs.declared.standing.Standing.{Standing}
 use Rattle.rules.specs.declared.standing.Standing.TheVariants.{Alone, MemberOf}
 use Rattle.rules.specs.Unions.{Head, unnamed, called, head_of, union_check}
+use Rattle.form.specs.Checks.{Check}
 
 -- bytes by which a head is entered: its full name, or the number of its kind
 unfoldable pub key_of : Head → List ℕ
@@ -26,7 +25,7 @@ member_check t namespace u q = union_check t namespace (MemberOf u q) (head_of t
 
 -- where a member is surely new it passes 19, and was entered
 abbrev pub Enters' : List ℕ → List ℕ → ℕ → ℕ → List ℕ → List ℕ → Bool → Type 0
-Enters' t namespace u q table table' true = (member_check t namespace u q ≡ Fine) × (table' ≡ entered table (mark_of (key_at t namespace q)))
+Enters' t namespace u q table table' true = (member_check t namespace u q ≡ Ok tt) × (table' ≡ entered table (mark_of (key_at t namespace q)))
 Enters' t namespace u q table table' false = Unit {0}
 
 pub record Enters (t namespace : List ℕ) (u q : ℕ) (table table' : List ℕ) (r : Bool) : Type 0 where
@@ -35,7 +34,7 @@ pub record Enters (t namespace : List ℕ) (u q : ℕ) (table table' : List ℕ)
 -- those of the members at qs that stand before a place pass 19
 abbrev pub SureOf : List ℕ → List ℕ → ℕ → ℕ → List ℕ → Type 0
 SureOf t namespace u place [] = Unit {0}
-SureOf t namespace u place (q ∷ qs) = (q < place → member_check t namespace u q ≡ Fine) × SureOf t namespace u place qs
+SureOf t namespace u place (q ∷ qs) = (q < place → member_check t namespace u q ≡ Ok tt) × SureOf t namespace u place qs
 
 pub record Sure (t namespace : List ℕ) (u place : ℕ) : Type 0 where
   pub sure : SureOf t namespace u place (elements t u)

@@ -1,6 +1,6 @@
 -- Union: none may be a union, no two of one unnamed kind, no two of one full name.
 -- Assumes nothing.
-use Rattle.std.specs.Prelude.{ℕ, Bool, true, false, not, cond, ◌&&◌, List, [], ◌∷◌, eqb}
+use Rattle.std.specs.Prelude.{ℕ, Bool, true, false, not, cond, ◌&&◌, List, [], ◌∷◌, eqb, Option, Some, None, Ok}
 use Rattle.answer.specs.declared.refusal.Why.TheVariants.{UnionRuleBroken}
 use Rattle.ground.specs.Bytes.{same}
 use Rattle.row.specs.Kinds.{kind_number}
@@ -10,18 +10,14 @@ use Rattle.view.specs.Elements.{elements}
 use Rattle.view.specs.Strings.{string_at}
 use Rattle.view.specs.Members.{members_of}
 use Rattle.view.specs.declared.members.Members.{Members}
-use Rattle.form.specs.declared.check.Check.{Check}
-use Rattle.form.specs.declared.check.Check.TheVariants.{Fine}
 use Rattle.form.specs.declared.forms.Form.{Form}
 use Rattle.form.specs.declared.forms.Form.TheVariants as form
 use Rattle.rules.specs.declared.standing.Standing.{Standing}
 use Rattle.rules.specs.declared.standing.Standing.TheVariants.{Alone, MemberOf}
 use Rattle.rules.specs.declared.unions.Apart.{Apart}
 use Rattle.rules.specs.declared.unions.Apart.TheVariants as apart
-use Rattle.name.specs.declared.qualify.Full.{Full}
-use Rattle.name.specs.declared.qualify.Full.TheVariants.{Fits, TooLong}
 use Rattle.name.specs.Full.{answer_of, buffer_after}
-use Rattle.form.specs.Checks.{fault, must}
+use Rattle.form.specs.Checks.{fault, must, Check}
 use Rattle.form.specs.Spots.{on_spot, as_text}
 use Rattle.form.specs.Names.{full_at, defined_at}
 use Rattle.form.specs.Forms.{form_of, word_kind}
@@ -73,7 +69,7 @@ is_union (called a) = false
 
 -- 19, at the member of the union at u as it is written there, p
 unfoldable pub union_check : List ℕ → List ℕ → Standing → Head → Check
-union_check t namespace Alone h = Fine
+union_check t namespace Alone h = Ok tt
 union_check t namespace (MemberOf u p) h =
     must (not (is_union h) && is_new t namespace h (before p (elements t u))) (fault UnionRuleBroken p)
 
@@ -89,9 +85,9 @@ unfoldable pub name_of : List ℕ → List ℕ → Members → List ℕ
 name_of t namespace m = on_spot (as_text t m.name) (defined_at t namespace m) []
 
 -- what is answered of a head, and what the buffer then holds that full names go into
-abbrev pub by_name : Full → Apart
-by_name (Fits n) = apart.Name n
-by_name TooLong = apart.LongName
+abbrev pub by_name : Option ℕ → Apart
+by_name (Some n) = apart.Name n
+by_name None = apart.LongName
 
 unfoldable pub apart_of : Head → Apart
 apart_of (unnamed k) = apart.Kind (kind_number k)

@@ -1,5 +1,5 @@
 // Field names in order: refused if equal to an earlier field's name or alias.
-ghost use Rattle.std.specs.Prelude.{◌≡◌, not, cond, ◌&&◌, [], ◌∷◌, map};
+ghost use Rattle.std.specs.Prelude.{◌≡◌, not, cond, ◌&&◌, [], ◌∷◌, map, Ok};
 ghost use Rattle.answer.specs.declared.refusal.Why.TheVariants.{FieldNameTaken};
 ghost use Rattle.name.specs.Name.{is_one_of};
 ghost use Rattle.view.specs.Strings.{string_at};
@@ -8,7 +8,6 @@ ghost use Rattle.view.specs.Values.{shape_at};
 ghost use Rattle.view.specs.Known.{Known};
 ghost use Rattle.view.specs.Marks.{mark_of};
 ghost use Rattle.seen.specs.Seen.{Sized, is_marked, Holds};
-ghost use Rattle.form.specs.declared.check.Check.TheVariants.{Fine};
 ghost use Rattle.form.specs.Checks.{fault, must};
 ghost use Rattle.form.specs.Spots.{on_spot, is_object, as_text, aliases_in, fields_in};
 ghost use Rattle.rules.specs.Unions.{before};
@@ -18,26 +17,26 @@ use super::bytes::bytes_at;
 use answer::Why;
 use form::{Check, as_text, first_alias, is_object, must};
 use seen::{enter, forget};
-use view::{Spot, first_element, mark, next_element, strings_same, titles_at};
+use view::{first_element, mark, next_element, strings_same, titles_at};
 
 // Where the name of the field at `at` is, whose member `name` has its value at the place.
-fn name_at(text: &[u8], at: usize, name: Spot) -> usize
+fn name_at(text: &[u8], at: usize, name: Option<usize>) -> usize
     ensures { result ≡ on_spot (as_text text.now name) (λ q. q) at }
 {
     match as_text(text, name) {
-        Spot::At(p) => p,
-        Spot::Nowhere => at,
+        Some(p) => p,
+        None => at,
     }
 }
 
 // Is the string at `at` one of the strings of `aliases`, whose value is at the place?
-fn is_alias(text: &[u8], ends: &[u16], aliases: Spot, at: usize) -> bool
+fn is_alias(text: &[u8], ends: &[u16], aliases: Option<usize>, at: usize) -> bool
     requires { Known text.now ends.now }
     ensures { result ≡ is_one_of (map (string_at text.now) (aliases_in text.now aliases)) (string_at text.now at) }
 {
     let mut spot = first_alias(text, ends, aliases);
     loop {
-        let Spot::At(p) = spot else {
+        let Some(p) = spot else {
             return false;
         };
         if strings_same(text, ends, at, p) {
@@ -79,7 +78,7 @@ fn is_taken(text: &[u8], ends: &[u16], array: usize, place: usize, at: usize) ->
 {
     let mut spot = first_element(text, array);
     loop {
-        let Spot::At(p) = spot else {
+        let Some(p) = spot else {
             return false;
         };
         if p == place {
@@ -93,13 +92,13 @@ fn is_taken(text: &[u8], ends: &[u16], array: usize, place: usize, at: usize) ->
 }
 
 // Enters the strings of `aliases`, whose value is at the place.
-fn enter_aliases(text: &[u8], ends: &[u16], aliases: Spot, table: &mut [u64])
+fn enter_aliases(text: &[u8], ends: &[u16], aliases: Option<usize>, table: &mut [u64])
     requires { Known text.now ends.now × Sized table.old }
     ensures { table.new ≡ entered_all table.old (map (string_at text.now) (aliases_in text.now aliases)) }
 {
     let mut spot = first_alias(text, ends, aliases);
     loop {
-        let Spot::At(p) = spot else {
+        let Some(p) = spot else {
             return;
         };
         let own = mark(text, ends, p);
@@ -109,7 +108,7 @@ fn enter_aliases(text: &[u8], ends: &[u16], aliases: Spot, table: &mut [u64])
 }
 
 // Enters what a field takes, its name and its aliases. Was its name marked before?
-fn enter_names(text: &[u8], ends: &[u16], name: usize, aliases: Spot, table: &mut [u64]) -> bool
+fn enter_names(text: &[u8], ends: &[u16], name: usize, aliases: Option<usize>, table: &mut [u64]) -> bool
     requires { Known text.now ends.now × Sized table.old }
     ensures { (result ≡ is_marked table.old (mark_of (string_at text.now name))) × (table.new ≡ entered_all table.old (string_at text.now name ∷ map (string_at text.now) (aliases_in text.now aliases))) }
 {
@@ -123,17 +122,17 @@ fn enter_names(text: &[u8], ends: &[u16], name: usize, aliases: Spot, table: &mu
 // entered; a name that is not marked is surely new, and for one that is they are asked.
 fn field_name(text: &[u8], ends: &[u16], array: usize, at: usize, table: &mut [u64]) -> Check
     requires { Known text.now ends.now × Sized table.old × Holds table.old (taken_among text.now (before at (elements text.now array))) }
-    ensures { (result ≡ cond (is_object (shape_at text.now at)) (must (not (is_one_of (taken_among text.now (before at (elements text.now array))) (field_name text.now at))) (fault FieldNameTaken (field_name_at text.now at))) Fine) × (table.new ≡ entered_all table.old (cond (is_object (shape_at text.now at)) (taken_by text.now at) [])) }
+    ensures { (result ≡ cond (is_object (shape_at text.now at)) (must (not (is_one_of (taken_among text.now (before at (elements text.now array))) (field_name text.now at))) (fault FieldNameTaken (field_name_at text.now at))) (Ok tt)) × (table.new ≡ entered_all table.old (cond (is_object (shape_at text.now at)) (taken_by text.now at) [])) }
 {
     if !is_object(text, at) {
-        return Check::Fine;
+        return Ok(());
     }
     let titles = titles_at(text, ends, at);
     let spot = titles.name;
     let name = name_at(text, at, spot);
     let aliases = titles.aliases;
     if !enter_names(text, ends, name, aliases, table) {
-        return Check::Fine;
+        return Ok(());
     }
     must(
         !is_taken(text, ends, array, at, name),
@@ -149,11 +148,11 @@ fn all_names(text: &[u8], ends: &[u16], array: usize, table: &mut [u64]) -> Chec
 {
     let mut spot = first_element(text, array);
     loop {
-        let Spot::At(p) = spot else {
-            return Check::Fine;
+        let Some(p) = spot else {
+            return Ok(());
         };
-        if let Check::Bad(f) = field_name(text, ends, array, p, table) {
-            return Check::Bad(f);
+        if let Err(f) = field_name(text, ends, array, p, table) {
+            return Err(f);
         }
         spot = next_element(text, ends, p);
     }

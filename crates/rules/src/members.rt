@@ -19,7 +19,7 @@ use json_scan::Scan;
 use name::Full;
 use row::Kind;
 use seen::{enter, forget};
-use view::{Spot, first_element, mark_of, next_element};
+use view::{first_element, mark_of, next_element};
 
 // Enters the number of a kind. Is it surely new, and that of no union?
 fn enter_kind(kind: u8, table: &mut [u64]) -> bool
@@ -102,7 +102,7 @@ fn new_until(
     let mut full: [u8; Full::LONGEST] = [0; Full::LONGEST];
     let mut spot = first_element(text, array);
     loop {
-        let Spot::At(p) = spot else {
+        let Some(p) = spot else {
             return text.len();
         };
         if !enter_member(text, ends, namespace, array, p, table, word, &mut full) {
@@ -124,7 +124,7 @@ fn is_small(text: &[u8], ends: &[u16], array: usize) -> bool
     let mut spot = first_element(text, array);
     let mut n: usize = 0;
     while n < FEW {
-        let Spot::At(p) = spot else {
+        let Some(p) = spot else {
             return true;
         };
         spot = next_element(text, ends, p);

@@ -20,7 +20,7 @@ use answer::{Fault, Why};
 use form::{Check, is_text, must, simple_check};
 use json_scan::Scan;
 use seen::{enter, forget};
-use view::{Spot, first_element, mark, next_element, strings_same};
+use view::{first_element, mark, next_element, strings_same};
 
 // 13: the first element that is no string.
 fn all_strings(text: &[u8], ends: &[u16], array: usize) -> Check
@@ -29,11 +29,11 @@ fn all_strings(text: &[u8], ends: &[u16], array: usize) -> Check
 {
     let mut spot = first_element(text, array);
     loop {
-        let Spot::At(p) = spot else {
-            return Check::Fine;
+        let Some(p) = spot else {
+            return Ok(());
         };
         if !is_text(text, p) {
-            return Check::Bad(Fault {
+            return Err(Fault {
                 why: Why::SymbolNotAString,
                 at: p,
             });
@@ -49,7 +49,7 @@ fn is_among(text: &[u8], ends: &[u16], array: usize, place: usize, at: usize) ->
 {
     let mut spot = first_element(text, array);
     loop {
-        let Spot::At(p) = spot else {
+        let Some(p) = spot else {
             return false;
         };
         if p == place {
@@ -88,8 +88,8 @@ fn symbol(
 {
     let twice = enter_symbol(text, ends, array, at, table);
     match simple_check(text, ends, at, word) {
-        Check::Bad(f) => Check::Bad(f),
-        Check::Fine => must(!twice, Why::SymbolTwice, at),
+        Err(f) => Err(f),
+        Ok(()) => must(!twice, Why::SymbolTwice, at),
     }
 }
 
@@ -106,11 +106,11 @@ fn each_symbol(
 {
     let mut spot = first_element(text, array);
     loop {
-        let Spot::At(p) = spot else {
-            return Check::Fine;
+        let Some(p) = spot else {
+            return Ok(());
         };
-        if let Check::Bad(f) = symbol(text, ends, array, p, table, word) {
-            return Check::Bad(f);
+        if let Err(f) = symbol(text, ends, array, p, table, word) {
+            return Err(f);
         }
         spot = next_element(text, ends, p);
     }
@@ -143,21 +143,21 @@ pub fn symbols_check(
     ensures { result ≡ symbols_check text.now (elements text.now array) }
 {
     match all_strings(text, ends, array) {
-        Check::Bad(f) => Check::Bad(f),
-        Check::Fine => each_new(text, ends, array, table, word),
+        Err(f) => Err(f),
+        Ok(()) => each_new(text, ends, array, table, word),
     }
 }
 
 // The `default` of the enum with the `symbols` at a place: 15, 16. All symbols stand before the text's end.
-pub fn default_check(text: &[u8], ends: &[u16], spot: Spot, array: usize) -> Check
+pub fn default_check(text: &[u8], ends: &[u16], spot: Option<usize>, array: usize) -> Check
     requires { Known text.now ends.now }
     ensures { result ≡ default_check text.now spot (elements text.now array) }
 {
-    let Spot::At(p) = spot else {
-        return Check::Fine;
+    let Some(p) = spot else {
+        return Ok(());
     };
     if !is_text(text, p) {
-        return Check::Bad(Fault {
+        return Err(Fault {
             why: Why::DefaultNotAString,
             at: p,
         });

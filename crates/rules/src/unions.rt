@@ -16,7 +16,7 @@ use ground::same;
 use json_scan::Scan;
 use name::{Full, full_name};
 use row::Kind;
-use view::{Members, Spot, first_element, next_element, string_copy};
+use view::{Members, first_element, next_element, string_copy};
 
 // ---- schemas that are told apart by their kind
 
@@ -59,7 +59,7 @@ fn is_new_kind(text: &[u8], ends: &[u16], array: usize, member: usize, kind: Kin
     let number = kind.number();
     let mut spot = first_element(text, array);
     loop {
-        let Spot::At(p) = spot else {
+        let Some(p) = spot else {
             return true;
         };
         if p == member {
@@ -78,10 +78,10 @@ pub fn new_kind(text: &[u8], ends: &[u16], standing: Standing, kind: Kind) -> Ch
     ensures { (namespace : List ℕ) → result ≡ union_check text.now namespace standing (unnamed kind) }
 {
     let Standing::MemberOf(array, member) = standing else {
-        return Check::Fine;
+        return Ok(());
     };
     if kind.number() == Kind::Union.number() {
-        return Check::Bad(Fault {
+        return Err(Fault {
             why: Why::UnionRuleBroken,
             at: member,
         });
@@ -103,12 +103,12 @@ pub enum Apart {
     LongName,
 }
 
-fn by_name(full: Full) -> Apart
+fn by_name(full: Option<usize>) -> Apart
     ensures { result ≡ by_name full }
 {
     match full {
-        Full::Fits(n) => Apart::Name(n),
-        Full::TooLong => Apart::LongName,
+        Some(n) => Apart::Name(n),
+        None => Apart::LongName,
     }
 }
 
@@ -120,7 +120,7 @@ fn full_at(
     at: usize,
     word: &mut [u8; Scan::TEXT],
     full: &mut [u8; Full::LONGEST],
-) -> Full
+) -> Option<usize>
     requires { (length text.now ≤ longest) × Known text.now ends.now }
     ensures { (result ≡ answer_of (full_at text.now namespace.now at)) × (full.new ≡ buffer_after full.old (full_at text.now namespace.now at)) }
 {
@@ -140,14 +140,14 @@ fn full_in(
     at: usize,
     word: &mut [u8; Scan::TEXT],
     full: &mut [u8; Full::LONGEST],
-) -> Full
+) -> Option<usize>
     requires { (length text.now ≤ longest) × Known text.now ends.now }
     ensures { (result ≡ answer_of (full_at text.now (string_at text.now space) at)) × (full.new ≡ buffer_after full.old (full_at text.now (string_at text.now space) at)) }
 {
     let mut own: [u8; WRITTEN] = [0; WRITTEN];
     let n = string_copy(text, ends, at, &mut own);
     if WRITTEN < n {
-        return Full::TooLong;
+        return None;
     }
     let k = string_copy(text, ends, space, word);
     let all = &word[..];
@@ -162,16 +162,16 @@ fn definition_full(
     members: Members,
     word: &mut [u8; Scan::TEXT],
     full: &mut [u8; Full::LONGEST],
-) -> Full
+) -> Option<usize>
     requires { (length text.now ≤ longest) × Known text.now ends.now }
     ensures { (result ≡ answer_of (name_of text.now enclosing.now members)) × (full.new ≡ buffer_after full.old (name_of text.now enclosing.now members)) }
 {
     let own = members.name;
-    let Spot::At(p) = as_text(text, own) else {
+    let Some(p) = as_text(text, own) else {
         return full_name(b"", b"", full);
     };
     let namespace = members.namespace;
-    let Spot::At(q) = as_text(text, namespace) else {
+    let Some(q) = as_text(text, namespace) else {
         return full_at(text, ends, enclosing, p, word, full);
     };
     full_in(text, ends, q, p, word, full)
@@ -264,7 +264,7 @@ pub(crate) fn is_new_name(
     let mut other: [u8; Full::LONGEST] = [0; Full::LONGEST];
     let mut spot = first_element(text, array);
     loop {
-        let Spot::At(p) = spot else {
+        let Some(p) = spot else {
             return true;
         };
         if p == member {
@@ -290,7 +290,7 @@ pub fn new_name(
     ensures { result ≡ union_check text.now namespace.now standing (called name.now) }
 {
     let Standing::MemberOf(array, member) = standing else {
-        return Check::Fine;
+        return Ok(());
     };
     must(
         is_new_name(text, ends, namespace, array, member, name, word),

@@ -1,5 +1,6 @@
 -- What was done, one thing after the other: nothing here knows the format.
 -- Assumes nothing.
+use Rattle.std.specs.Prelude.{Ok, Err}
 use mathlib.Core.Path.{◌≡◌, refl, sym, ap, ◌∙◌, subst}
 use mathlib.Core.List.{List, [], ◌∷◌, append-nil, append_assoc}
 use Prim.Native.Nat.{ℕ, ◌-◌, ◌≤◌}
@@ -12,21 +13,18 @@ use Rattle.row.specs.Rows.{Row, strings_of}
 use Rattle.row.specs.Memory.{counted, pushed, counted_all, pushed_all}
 use Rattle.row.proofs.RowLaws.{length_strings}
 use Rattle.row.proofs.Laws.{counted_append, pushed_append}
-use Rattle.form.specs.declared.check.Check.{Check}
-use Rattle.form.specs.declared.check.Check.TheVariants as check
-use Rattle.schema.specs.declared.walked.Walked.{Walked}
-use Rattle.schema.specs.declared.walked.Walked.TheVariants.{Read, Bad}
 use Rattle.schema.specs.declared.walked.Defined.{Defined}
 use Rattle.schema.specs.declared.walked.Defined.TheVariants as defined
-use Rattle.schema.specs.Out.{Out, refused, read, rows_then, and_then, after}
+use Rattle.schema.specs.Out.{Out, refused, read, rows_then, and_then, after, Walked}
 use Rattle.schema.specs.Did.{Did, Titled}
+use Rattle.form.specs.Checks.{Check}
 
 -- ---- the answers at the leaves
 
-pub did_bad : (m m' : List ℕ) (c : Counts) (f : Fault) → Did m c m' (Bad f) (refused f)
+pub did_bad : (m m' : List ℕ) (c : Counts) (f : Fault) → Did m c m' (Err f) (refused f)
 did_bad m m' c f = record { did = refl }
 
-pub did_none : (m : List ℕ) (c : Counts) → Did m c m (Read c) (read [])
+pub did_none : (m : List ℕ) (c : Counts) → Did m c m (Ok c) (read [])
 unfolding counted_all pushed_all
 did_none m c = record { did = (refl, refl) }
 
@@ -34,9 +32,9 @@ did_none m c = record { did = (refl, refl) }
 pub own_string : (w : Row) → w.default ≡ [] → length w.text ≡ length (strings_of w)
 own_string w d = sym (length_strings w ∙ rw d (add-zero (length w.text)))
 
-pub did_row : {m m' : List ℕ} {c c' : Counts} (w : Row) → w.default ≡ [] → c' ≡ counted c (length w.text) → m' ≡ pushed m c w → Did m c m' (Read c') (read (w ∷ []))
+pub did_row : {m m' : List ℕ} {c c' : Counts} (w : Row) → w.default ≡ [] → c' ≡ counted c (length w.text) → m' ≡ pushed m c w → Did m c m' (Ok c') (read (w ∷ []))
 unfolding counted_all pushed_all
-did_row {c = c} w d e h = record { did = (ap Read (e ∙ ap (counted c) (own_string w d)), h) }
+did_row {c = c} w d e h = record { did = (ap Ok (e ∙ ap (counted c) (own_string w d)), h) }
 
 -- ---- the definition's own equations
 
@@ -48,7 +46,7 @@ did_eq {m} {m'} {c} {r} e d = subst (λ (x : Out). Did m c m' r x) (sym e) d
 did_rows : (m m'' : List ℕ) (c : Counts) (r : Walked) (rows : List Row) (o : Out) → Did (pushed_all m c rows) (counted_all c rows) m'' r o → Did m c m'' r (rows_then rows o)
 did_rows m m'' c r rows (refused f) d = record { did = d.did }
 did_rows m m'' c r rows (read more) d =
-    record { did = (d.did.0 ∙ ap Read (sym (counted_append c rows more)), d.did.1 ∙ sym (pushed_append m c rows more)) }
+    record { did = (d.did.0 ∙ ap Ok (sym (counted_append c rows more)), d.did.1 ∙ sym (pushed_append m c rows more)) }
 
 -- a row was pushed, and then
 pub did_pushed : {m m' m'' : List ℕ} {c c' : Counts} {r : Walked} (w : Row) (o : Out) → c' ≡ counted c (length (strings_of w)) → m' ≡ pushed m c w
@@ -65,7 +63,7 @@ did_after {c = c} w o n e h d = did_pushed w o (e ∙ ap (counted c) (own_string
 -- ---- one part, and then the next
 
 -- a call was refused: so is the whole
-pub did_stop : {m m' m'' : List ℕ} {c : Counts} {r : Walked} {f : Fault} (o next : Out) → Did m c m' r o → r ≡ Bad f → Did m c m'' (Bad f) (and_then o next)
+pub did_stop : {m m' m'' : List ℕ} {c : Counts} {r : Walked} {f : Fault} (o next : Out) → Did m c m' r o → r ≡ Err f → Did m c m'' (Err f) (and_then o next)
 did_stop (refused x) next d e = record { did = sym e ∙ d.did }
 did_stop (read rows) next d e =
     let a = d.did.0 in
@@ -73,7 +71,7 @@ did_stop (read rows) next d e =
     absurd (omega arith)
 
 -- a call went on: so does the whole
-pub did_then : {m m' m'' : List ℕ} {c c' : Counts} {r r'' : Walked} (o next : Out) → Did m c m' r o → r ≡ Read c'
+pub did_then : {m m' m'' : List ℕ} {c c' : Counts} {r r'' : Walked} (o next : Out) → Did m c m' r o → r ≡ Ok c'
     → Did m' c' m'' r'' next → Did m c m'' r'' (and_then o next)
 did_then (refused x) next d e w =
     let a = d.did in
@@ -108,19 +106,19 @@ part_then (read rs) o next = rows_then_lem rs o next
 
 -- ---- a check, and then
 
-pub did_fault : {m m' : List ℕ} {c : Counts} {f : Fault} (x : Check) (next : Out) → x ≡ check.Bad f → Did m c m' (Bad f) (after x next)
-did_fault {m} {m'} {c} {f} x next e = subst (λ (y : Check). Did m c m' (Bad f) (after y next)) (sym e) (did_bad m m' c f)
+pub did_fault : {m m' : List ℕ} {c : Counts} {f : Fault} (x : Check) (next : Out) → x ≡ Err f → Did m c m' (Err f) (after x next)
+did_fault {m} {m'} {c} {f} x next e = subst (λ (y : Check). Did m c m' (Err f) (after y next)) (sym e) (did_bad m m' c f)
 
-pub did_fine : {m m' : List ℕ} {c : Counts} {r : Walked} (x : Check) (next : Out) → x ≡ check.Fine → Did m c m' r next → Did m c m' r (after x next)
+pub did_fine : {m m' : List ℕ} {c : Counts} {r : Walked} (x : Check) (next : Out) → x ≡ Ok tt → Did m c m' r next → Did m c m' r (after x next)
 did_fine {m} {m'} {c} {r} x next e d = subst (λ (y : Check). Did m c m' r (after y next)) (sym e) d
 
 pub after_then : (x : Check) (o next : Out) → after x (and_then o next) ≡ and_then (after x o) next
-after_then check.Fine o next = refl
-after_then (check.Bad f) o next = refl
+after_then (Ok tt) o next = refl
+after_then (Err f) o next = refl
 
 -- ---- definitions
 
-pub titled_as : {m m' buffer full : List ℕ} {c c' : Counts} {r : Walked} {n : ℕ} (o : Out) → Did m c m' r o → r ≡ Read c' → n ≤ length buffer → take (n - 0) (drop 0 buffer) ≡ full
+pub titled_as : {m m' buffer full : List ℕ} {c c' : Counts} {r : Walked} {n : ℕ} (o : Out) → Did m c m' r o → r ≡ Ok c' → n ≤ length buffer → take (n - 0) (drop 0 buffer) ≡ full
     → Titled m c m' (defined.As n c') buffer full o
 titled_as (refused x) d e k h =
     let a = d.did in
@@ -131,7 +129,7 @@ titled_as {c = c} {c'} {n = n} (read rows) d e k h =
     let z : c' ≡ counted_all c rows = cc in
     record { titled = (n, ap (defined.As n) z, d.did.1, k, h) }
 
-pub titled_bad : {m m' buffer full : List ℕ} {c : Counts} {r : Walked} {f : Fault} (o : Out) → Did m c m' r o → r ≡ Bad f → Titled m c m' (defined.Bad f) buffer full o
+pub titled_bad : {m m' buffer full : List ℕ} {c : Counts} {r : Walked} {f : Fault} (o : Out) → Did m c m' r o → r ≡ Err f → Titled m c m' (defined.Bad f) buffer full o
 titled_bad {f = f} (refused x) d e = let a = d.did in let z : f ≡ x = cc in record { titled = ap defined.Bad z }
 titled_bad (read rows) d e =
     let a = d.did.0 in
@@ -139,7 +137,7 @@ titled_bad (read rows) d e =
     absurd (omega arith)
 
 -- the same as a walk's answer
-pub did_titled : {m m' buffer full : List ℕ} {c c' : Counts} {r : Defined} {n : ℕ} (o : Out) → Titled m c m' r buffer full o → r ≡ defined.As n c' → Did m c m' (Read c') o
+pub did_titled : {m m' buffer full : List ℕ} {c c' : Counts} {r : Defined} {n : ℕ} (o : Out) → Titled m c m' r buffer full o → r ≡ defined.As n c' → Did m c m' (Ok c') o
 did_titled (refused x) d e =
     let a = d.titled in
     let z : ◌≡◌ {A = ℕ} 0 1 = cc in
@@ -147,10 +145,10 @@ did_titled (refused x) d e =
 did_titled {c = c} {c'} (read rows) d e =
     let a = d.titled.1 in
     let z : c' ≡ counted_all c rows = cc in
-    record { did = (ap Read z, d.titled.2) }
+    record { did = (ap Ok z, d.titled.2) }
 
-pub did_untitled : {m m' buffer full : List ℕ} {c : Counts} {r : Defined} {f : Fault} (o : Out) → Titled m c m' r buffer full o → r ≡ defined.Bad f → Did m c m' (Bad f) o
-did_untitled {f = f} (refused x) d e = let a = d.titled in let z : f ≡ x = cc in record { did = ap Bad z }
+pub did_untitled : {m m' buffer full : List ℕ} {c : Counts} {r : Defined} {f : Fault} (o : Out) → Titled m c m' r buffer full o → r ≡ defined.Bad f → Did m c m' (Err f) o
+did_untitled {f = f} (refused x) d e = let a = d.titled in let z : f ≡ x = cc in record { did = ap Err z }
 did_untitled (read rows) d e =
     let a = d.titled.1 in
     let z : ◌≡◌ {A = ℕ} 0 1 = cc in

@@ -1,5 +1,6 @@
 -- Any schema, by its form: one law for each way out of the code.
 -- Assumes nothing.
+use Rattle.std.specs.Prelude.{Option, Some, None, Ok, Err}
 use mathlib.Core.Path.{◌≡◌, refl, sym, ap, ◌∙◌, subst}
 use mathlib.Core.Bool.{Bool, true, false, cond}
 use mathlib.Core.List.{List, [], ◌∷◌}
@@ -23,23 +24,19 @@ use Rattle.row.specs.Rows.{Row}
 use Rattle.row.specs.Memory.{counted, pushed}
 use Rattle.row.specs.declared.kind.Kind.{Kind}
 use Rattle.row.specs.declared.kind.Kind.TheVariants.{Bytes, Reference, Array, Map, Union, Record}
-use Rattle.view.specs.declared.space.Spot.{Spot}
-use Rattle.view.specs.declared.space.Spot.TheVariants.{At, Nowhere}
 use Rattle.view.specs.declared.members.Members.{Members}
 use Rattle.view.specs.Elements.{first_element, next_element, elements_at}
 use Rattle.view.specs.Members.{members_of}
 use Rattle.view.specs.Strings.{string_at}
 use Rattle.view.specs.Values.{shape_at, value_start}
 use Rattle.view.proofs.Laws.{left_start}
-use Rattle.form.specs.declared.check.Check.{Check}
-use Rattle.form.specs.declared.check.Check.TheVariants as check
 use Rattle.form.specs.declared.forms.Form.{Form}
 use Rattle.form.specs.declared.forms.Form.TheVariants as form
 use Rattle.form.specs.declared.forms.Found.{Found}
 use Rattle.form.specs.declared.note.Note.{Note}
 use Rattle.rules.specs.declared.standing.Standing.{Standing}
 use Rattle.rules.specs.declared.standing.Standing.TheVariants.{MemberOf}
-use Rattle.form.specs.Checks.{fault}
+use Rattle.form.specs.Checks.{fault, Check}
 use Rattle.form.specs.Spots.{on_spot, is_object, as_text, as_array, aliases_in, objects_among, fields_in}
 use Rattle.form.specs.Names.{simple_check}
 use Rattle.form.specs.Forms.{word_kind, form_of, no_members, found_of, most_nested}
@@ -48,11 +45,9 @@ use Rattle.form.specs.Notes.{noted, note_of, is_decimal}
 use Rattle.rules.specs.Fields.{field_names_check}
 use Rattle.rules.specs.Unions.{unnamed, union_check, name_of}
 use Rattle.form.proofs.Laws.{found_form, found_members}
-use Rattle.schema.specs.declared.walked.Walked.{Walked}
-use Rattle.schema.specs.declared.walked.Walked.TheVariants.{Read, Bad}
 use Rattle.schema.specs.declared.walked.Defined.{Defined}
 use Rattle.schema.specs.declared.walked.Defined.TheVariants as defined
-use Rattle.schema.specs.Out.{Out, refused, read, rows_then, and_then, after, no, each}
+use Rattle.schema.specs.Out.{Out, refused, read, rows_then, and_then, after, no, each, Walked}
 use Rattle.schema.specs.Schema.{Around, within, row_with, new_kind, reference_rows, primitive_rows, word_rows, field_alias_rows, field_row, kept_check, field_rows, fields_rows, record_rows, enum_rows, fixed_rows, part_rows, union_rows, schema_by, schema_of, rows_of, declared}
 use Rattle.schema.specs.Did.{Did, Titled, around, primitive_with, word_with, head_rows, field_head, element_rows}
 use Rattle.schema.proofs.Did.{did_bad, did_eq, did_after, did_stop, did_then, did_fault, did_fine, did_titled, did_untitled, titled_front, none_then, rows_then_lem, part_then, after_then}
@@ -70,12 +65,12 @@ unfolding schema_of
 by_form zero t a d p n e = absurd (n refl)
 by_form (suc left) t a d p n e = rw (sub-one) (ap (schema_by (schema_of left t) t a d) e)
 
-note_in : (t : List ℕ) (o : Spot) → on_spot o (λ p. note_of t (members_of t p) over.Bytes) (noted 0) ≡ note_of t (on_spot o (members_of t) no_members) over.Bytes
+note_in : (t : List ℕ) (o : Option ℕ) → on_spot o (λ p. note_of t (members_of t p) over.Bytes) (noted 0) ≡ note_of t (on_spot o (members_of t) no_members) over.Bytes
 unfolding note_of is_decimal as_text
-note_in t (At p) = refl
-note_in t Nowhere = refl
+note_in t (Some p) = refl
+note_in t None = refl
 
-word_is : (t : List ℕ) (a : Around) (d q : ℕ) (o : Spot) → word_rows t a d (word_kind (string_at t q)) q o ≡ word_with t a d q (on_spot o (members_of t) no_members)
+word_is : (t : List ℕ) (a : Around) (d q : ℕ) (o : Option ℕ) → word_rows t a d (word_kind (string_at t q)) q o ≡ word_with t a d q (on_spot o (members_of t) no_members)
 unfolding word_rows word_with primitive_rows primitive_with
 word_is t a d q o =
     let k = word_kind (string_at t q) in
@@ -87,7 +82,7 @@ module _ (left : ℕ) (t : List ℕ) (a : Around) (d p : ℕ) (n : left ≡ 0 �
   unfolding schema_by
   schema_wrong g = by_form left t a d p n (found_form t p e g)
 
-  pub schema_word : {q : ℕ} {o : Spot} → x.form ≡ form.Word q o → schema_of left t a d p ≡ word_with t a d q x.members
+  pub schema_word : {q : ℕ} {o : Option ℕ} → x.form ≡ form.Word q o → schema_of left t a d p ≡ word_with t a d q x.members
   unfolding schema_by found_of
   schema_word {q} {o} g =
       by_form left t a d p n (found_form t p e g) ∙ word_is t a d q o ∙ ap (word_with t a d q) (sym (found_members t p e g))
@@ -122,17 +117,17 @@ module _ (left : ℕ) (t : List ℕ) (a : Around) (d p : ℕ) (n : left ≡ 0 �
 
 -- ---- arrays and maps
 
-module _ (schema : Around → ℕ → ℕ → Out) (t namespace : List ℕ) (standing : Standing) (kind : Kind) (d p : ℕ) (part : Spot) (x : Fault) {m m' : List ℕ} {c : Counts}
+module _ (schema : Around → ℕ → ℕ → Out) (t namespace : List ℕ) (standing : Standing) (kind : Kind) (d p : ℕ) (part : Option ℕ) (x : Fault) {m m' : List ℕ} {c : Counts}
     {r : Check} (e : (ns : List ℕ) → r ≡ union_check t ns standing (unnamed kind)) where
-  pub part_old : {f : Fault} → r ≡ check.Bad f → Did m c m' (Bad f) (part_rows schema t (around namespace standing) kind d p part (refused x))
+  pub part_old : {f : Fault} → r ≡ Err f → Did m c m' (Err f) (part_rows schema t (around namespace standing) kind d p part (refused x))
   unfolding part_rows
   part_old g = did_fault (union_check t namespace standing (unnamed kind)) _ (sym (e namespace) ∙ g)
 
-  pub part_none : r ≡ check.Fine → part ≡ Nowhere → Did m c m' (Bad x) (part_rows schema t (around namespace standing) kind d p part (refused x))
+  pub part_none : r ≡ Ok tt → part ≡ None → Did m c m' (Err x) (part_rows schema t (around namespace standing) kind d p part (refused x))
   unfolding part_rows
   part_none g h = did_fine (union_check t namespace standing (unnamed kind)) _ (sym (e namespace) ∙ g) (rw h (did_bad m m' c x))
 
-  pub part_one : {m'' : List ℕ} {c'' : Counts} {r'' : Walked} {q : ℕ} → r ≡ check.Fine → part ≡ At q → (c'' ≡ counted c 0) × (m'' ≡ pushed m c (row_with kind d p [] 0 (noted 0)))
+  pub part_one : {m'' : List ℕ} {c'' : Counts} {r'' : Walked} {q : ℕ} → r ≡ Ok tt → part ≡ Some q → (c'' ≡ counted c 0) × (m'' ≡ pushed m c (row_with kind d p [] 0 (noted 0)))
       → Did m'' c'' m' r'' (schema (within namespace) (d + 1) q) → Did m c m' r'' (part_rows schema t (around namespace standing) kind d p part (refused x))
   unfolding part_rows
   part_one g h i j =
@@ -147,11 +142,11 @@ member schema namespace d p q = schema (around namespace (MemberOf p q)) (d + 1)
 
 module _ (schema : Around → ℕ → ℕ → Out) (t namespace : List ℕ) (standing : Standing) (d p : ℕ) {m m' : List ℕ} {c : Counts}
     {r : Check} (e : (ns : List ℕ) → r ≡ union_check t ns standing (unnamed Union)) where
-  pub union_old : {f : Fault} → r ≡ check.Bad f → Did m c m' (Bad f) (union_rows schema t (around namespace standing) d p)
+  pub union_old : {f : Fault} → r ≡ Err f → Did m c m' (Err f) (union_rows schema t (around namespace standing) d p)
   unfolding union_rows
   union_old g = did_fault (union_check t namespace standing (unnamed Union)) _ (sym (e namespace) ∙ g)
 
-  pub union_rows_lem : {m'' : List ℕ} {c'' : Counts} {r'' : Walked} {s : Spot} → r ≡ check.Fine → (c'' ≡ counted c 0) × (m'' ≡ pushed m c (row_with Union d p [] 0 (noted 0)))
+  pub union_rows_lem : {m'' : List ℕ} {c'' : Counts} {r'' : Walked} {s : Option ℕ} → r ≡ Ok tt → (c'' ≡ counted c 0) × (m'' ≡ pushed m c (row_with Union d p [] 0 (noted 0)))
       → s ≡ first_element t p → Did m'' c'' m' r'' (each (member schema namespace d p) (elements_at t s)) → Did m c m' r'' (union_rows schema t (around namespace standing) d p)
   unfolding union_rows
   union_rows_lem {m''} {c''} {r''} g i j k =
@@ -170,16 +165,16 @@ record_then schema t a d p o =
 
 module _ (schema : Around → ℕ → ℕ → Out) (t namespace : List ℕ) (standing : Standing) (d p : ℕ) (o : Members) {m m'' buffer : List ℕ} {c : Counts}
     {r : Defined} (e : Titled m c m'' r buffer (name_of t namespace o) (head_rows t (around namespace standing) Record d p o 0 (noted 0))) where
-  pub record_bad : {m' : List ℕ} {f : Fault} → r ≡ defined.Bad f → Did m c m' (Bad f) (record_rows schema t (around namespace standing) d p o)
+  pub record_bad : {m' : List ℕ} {f : Fault} → r ≡ defined.Bad f → Did m c m' (Err f) (record_rows schema t (around namespace standing) d p o)
   record_bad g = did_eq (record_then schema t (around namespace standing) d p o) (did_stop _ _ (did_untitled _ e g) refl)
 
-  module _ {n : ℕ} {c'' : Counts} (g : r ≡ defined.As n c'') {s : Spot} (h : s ≡ as_array t o.fields) where
-    pub record_none : s ≡ Nowhere → Did m c m'' (Bad (fault FieldsMissing p)) (record_rows schema t (around namespace standing) d p o)
+  module _ {n : ℕ} {c'' : Counts} (g : r ≡ defined.As n c'') {s : Option ℕ} (h : s ≡ as_array t o.fields) where
+    pub record_none : s ≡ None → Did m c m'' (Err (fault FieldsMissing p)) (record_rows schema t (around namespace standing) d p o)
     record_none i =
         did_eq (record_then schema t (around namespace standing) d p o)
         (did_then _ _ (did_titled _ e g) refl (rw (← h, i) (did_bad m'' m'' c'' (fault FieldsMissing p))))
 
-    pub record_fields : {m' : List ℕ} {v : ℕ} {own : List ℕ} {r'' : Walked} → s ≡ At v → own ≡ namespace_part (take (n - 0) (drop 0 buffer))
+    pub record_fields : {m' : List ℕ} {v : ℕ} {own : List ℕ} {r'' : Walked} → s ≡ Some v → own ≡ namespace_part (take (n - 0) (drop 0 buffer))
         → Did m'' c'' m' r'' (fields_rows (schema (within own)) t (d + 1) (fields_in t v)) → Did m c m' r'' (record_rows schema t (around namespace standing) d p o)
     record_fields {m'} {v} {own} {r''} i j k =
         let w : own ≡ namespace_part (name_of t namespace o) = j ∙ ap namespace_part (titled_front _ e g).1 in
@@ -189,24 +184,24 @@ module _ (schema : Around → ℕ → ℕ → Out) (t namespace : List ℕ) (sta
 
 -- ---- fields
 
-all_fields : (t : List ℕ) (array : ℕ) {s : Spot} → s ≡ first_element t array → objects_among t (elements_at t s) ≡ fields_in t array
+all_fields : (t : List ℕ) (array : ℕ) {s : Option ℕ} → s ≡ first_element t array → objects_among t (elements_at t s) ≡ fields_in t array
 unfolding fields_in
 all_fields t array e = ap (objects_among t) (left_start t array e)
 
-module _ (schema : ℕ → ℕ → Out) (t : List ℕ) (d array : ℕ) {m m' : List ℕ} {c : Counts} {s : Spot} (e : s ≡ first_element t array) where
-  pub fields_bad : {f : Fault} → Did m c m' (Bad f) (each (field_rows schema t d) (objects_among t (elements_at t s))) → Did m c m' (Bad f) (fields_rows schema t d (fields_in t array))
+module _ (schema : ℕ → ℕ → Out) (t : List ℕ) (d array : ℕ) {m m' : List ℕ} {c : Counts} {s : Option ℕ} (e : s ≡ first_element t array) where
+  pub fields_bad : {f : Fault} → Did m c m' (Err f) (each (field_rows schema t d) (objects_among t (elements_at t s))) → Did m c m' (Err f) (fields_rows schema t d (fields_in t array))
   unfolding fields_rows
-  fields_bad {f} g = did_stop _ _ (subst (λ (l : List ℕ). Did m c m' (Bad f) (each (field_rows schema t d) l)) (all_fields t array e) g) refl
+  fields_bad {f} g = did_stop _ _ (subst (λ (l : List ℕ). Did m c m' (Err f) (each (field_rows schema t d) l)) (all_fields t array e) g) refl
 
-  pub fields_end : {c' : Counts} {r : Walked} → Did m c m' (Read c') (each (field_rows schema t d) (objects_among t (elements_at t s)))
+  pub fields_end : {c' : Counts} {r : Walked} → Did m c m' (Ok c') (each (field_rows schema t d) (objects_among t (elements_at t s)))
       → ((x : List ℕ) → Did x c' x r (after (field_names_check t [] (fields_in t array)) (read []))) → Did m c m' r (fields_rows schema t d (fields_in t array))
   unfolding fields_rows
-  fields_end {c'} g h = did_then _ _ (subst (λ (l : List ℕ). Did m c m' (Read c') (each (field_rows schema t d) l)) (all_fields t array e) g) refl (h m')
+  fields_end {c'} g h = did_then _ _ (subst (λ (l : List ℕ). Did m c m' (Ok c') (each (field_rows schema t d) l)) (all_fields t array e) g) refl (h m')
 
-pub fields_done : (schema : ℕ → ℕ → Out) (t : List ℕ) (d : ℕ) {s : Spot} → s ≡ Nowhere → each (field_rows schema t d) (objects_among t (elements_at t s)) ≡ read []
+pub fields_done : (schema : ℕ → ℕ → Out) (t : List ℕ) (d : ℕ) {s : Option ℕ} → s ≡ None → each (field_rows schema t d) (objects_among t (elements_at t s)) ≡ read []
 fields_done schema t d e = objects_done (field_rows schema t d) t e
 
-pub fields_next : (schema : ℕ → ℕ → Out) (t : List ℕ) (d : ℕ) {s s' : Spot} {p : ℕ} → s ≡ At p → s' ≡ next_element t p
+pub fields_next : (schema : ℕ → ℕ → Out) (t : List ℕ) (d : ℕ) {s s' : Option ℕ} {p : ℕ} → s ≡ Some p → s' ≡ next_element t p
     → each (field_rows schema t d) (objects_among t (elements_at t s)) ≡ and_then (element_rows schema t d p) (each (field_rows schema t d) (objects_among t (elements_at t s')))
 unfolding element_rows
 fields_next schema t d e f = objects_next (field_rows schema t d) t e f
@@ -236,7 +231,7 @@ field_then : (schema : ℕ → ℕ → Out) (t : List ℕ) (d f : ℕ) (o : Memb
 unfolding field_rows field_head
 field_then schema t d f o e = rw e (go (members_of t f) (as_text t (members_of t f).name))
   where
-    go : (o : Members) (s : Spot) → on_spot s
+    go : (o : Members) (s : Option ℕ) → on_spot s
         (λ q. after (simple_check t q) (rows_then (field_row t d q o.default ∷ []) (and_then (each (field_alias_rows t (d + 1)) (aliases_in t o.aliases))
         (after (kept_check t o.default) (on_spot o.typed (schema (d + 1)) (no TypeMissing f))))))
         (no NameMissing f)
@@ -245,19 +240,19 @@ field_then schema t d f o e = rw e (go (members_of t f) (as_text t (members_of t
         (after (kept_check t o.default) (read [])))))
         (no NameMissing f))
         (on_spot o.typed (schema (d + 1)) (no TypeMissing f))
-    go o Nowhere = refl
-    go o (At q) =
+    go o None = refl
+    go o (Some q) =
         checked_then (simple_check t q) (kept_check t o.default) (field_row t d q o.default ∷ []) (each (field_alias_rows t (d + 1)) (aliases_in t o.aliases))
         (on_spot o.typed (schema (d + 1)) (no TypeMissing f))
 
 module _ (schema : ℕ → ℕ → Out) (t : List ℕ) (d f : ℕ) {o : Members} (e : o ≡ members_of t f) {m m'' : List ℕ} {c : Counts} {r : Walked} (g : Did m c m'' r (field_head t d f o)) where
-  pub field_stop : {m' : List ℕ} {x : Fault} → r ≡ Bad x → Did m c m' (Bad x) (field_rows schema t d f)
+  pub field_stop : {m' : List ℕ} {x : Fault} → r ≡ Err x → Did m c m' (Err x) (field_rows schema t d f)
   field_stop h = did_eq (field_then schema t d f o e) (did_stop _ _ g h)
 
-  pub field_untyped : {c'' : Counts} → r ≡ Read c'' → o.typed ≡ Nowhere → Did m c m'' (Bad (fault TypeMissing f)) (field_rows schema t d f)
+  pub field_untyped : {c'' : Counts} → r ≡ Ok c'' → o.typed ≡ None → Did m c m'' (Err (fault TypeMissing f)) (field_rows schema t d f)
   field_untyped {c''} h i = did_eq (field_then schema t d f o e) (did_then _ _ g h (rw i (did_bad m'' m'' c'' (fault TypeMissing f))))
 
-  pub field_typed : {m' : List ℕ} {c'' : Counts} {q : ℕ} {r'' : Walked} → r ≡ Read c'' → o.typed ≡ At q → Did m'' c'' m' r'' (schema (d + 1) q) → Did m c m' r'' (field_rows schema t d f)
+  pub field_typed : {m' : List ℕ} {c'' : Counts} {q : ℕ} {r'' : Walked} → r ≡ Ok c'' → o.typed ≡ Some q → Did m'' c'' m' r'' (schema (d + 1) q) → Did m c m' r'' (field_rows schema t d f)
   field_typed h i j = did_eq (field_then schema t d f o e) (did_then _ _ g h (rw i j))
 
 -- ---- the whole
@@ -272,7 +267,7 @@ scanned_short t e g = go (ltb longest (length t)) refl (sym e ∙ g)
     go false f h = ltb-false longest (length t) f
 
 module _ (t : List ℕ) {r : Scan} (e : r ≡ scanned t) {m m' : List ℕ} {c : Counts} where
-  pub declared_not : {f : Fault} → r ≡ scan.Bad f → Did m c m' (Bad f) (declared t)
+  pub declared_not : {f : Fault} → r ≡ scan.Bad f → Did m c m' (Err f) (declared t)
   unfolding declared
   declared_not {f} g = rw (← e, g) (did_bad m m' c f)
 

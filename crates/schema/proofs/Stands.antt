@@ -1,5 +1,6 @@
 -- A member of a union that passes 19 is read as if it stood alone.
 -- Assumes nothing.
+use Rattle.std.specs.Prelude.{Option, Some, None, Ok}
 use mathlib.Core.Path.{◌≡◌, refl, sym, ap, subst}
 use mathlib.Core.Bool.{Bool, true, false, cond}
 use mathlib.Core.List.{List, [], ◌∷◌}
@@ -10,17 +11,12 @@ use Rattle.answer.specs.declared.refusal.Why.TheVariants.{NameMissing, SizeMissi
 use Rattle.row.specs.Kinds.{kind_number}
 use Rattle.row.specs.declared.kind.Kind.{Kind}
 use Rattle.row.specs.declared.kind.Kind.TheVariants.{Reference, Array, Map, Union, Record, Enum, Fixed}
-use Rattle.view.specs.declared.space.Spot.{Spot}
-use Rattle.view.specs.declared.space.Spot.TheVariants.{At, Nowhere}
-use Rattle.view.specs.declared.sizes.Size.{Size}
-use Rattle.view.specs.declared.sizes.Size.TheVariants.{Value, NoSize}
 use Rattle.view.specs.declared.members.Members.{Members}
 use Rattle.view.specs.Elements.{first_element, next_element, elements_at}
 use Rattle.view.specs.Members.{members_of}
 use Rattle.view.specs.Size.{size_of}
 use Rattle.view.specs.Strings.{string_at}
 use Rattle.view.proofs.Laws.{left_start, left_next}
-use Rattle.form.specs.declared.check.Check.TheVariants.{Fine}
 use Rattle.form.specs.declared.forms.Form.{Form}
 use Rattle.form.specs.declared.forms.Form.TheVariants as form
 use Rattle.form.specs.declared.note.Note.{Note}
@@ -42,13 +38,13 @@ module _ (t namespace : List ℕ) (u q : ℕ) where
   member = around namespace (MemberOf u q)
 
   Passes : Head → Type 0
-  Passes h = union_check t namespace (MemberOf u q) h ≡ Fine
+  Passes h = union_check t namespace (MemberOf u q) h ≡ Ok tt
 
   after_sure : (h : Head) → Passes h → (next : Out) → after (union_check t namespace Alone h) next ≡ after (union_check t namespace (MemberOf u q) h) next
   unfolding union_check Passes
   after_sure h e next = rw e
 
-  word_sure : (d : ℕ) (k : Kind) (r : ℕ) (o : Spot) (b : Bool) → Passes (cond b (called (full_at t namespace r)) (unnamed k))
+  word_sure : (d : ℕ) (k : Kind) (r : ℕ) (o : Option ℕ) (b : Bool) → Passes (cond b (called (full_at t namespace r)) (unnamed k))
       → cond b (reference_rows t (within namespace) d r) (primitive_rows t (within namespace) d k r o) ≡ cond b (reference_rows t member d r) (primitive_rows t member d k r o)
   unfolding reference_rows primitive_rows member
   word_sure d k r o true e = ap (after (reference_check t namespace r)) (after_sure (called (full_at t namespace r)) e _)
@@ -59,24 +55,24 @@ module _ (t namespace : List ℕ) (u q : ℕ) where
   unfolding definition definition_rows definition_head member
   definition_sure kind d p o size note rest e = go (as_text t o.name) e
     where
-      go : (s : Spot) → Passes (on_spot s (λ r. called (defined_at t namespace o r)) (called []))
+      go : (s : Option ℕ) → Passes (on_spot s (λ r. called (defined_at t namespace o r)) (called []))
           → on_spot s (λ r. definition_rows t (within namespace) kind d o r size note rest) (no NameMissing p) ≡ on_spot s (λ r. definition_rows t member kind d o r size note rest) (no NameMissing p)
-      go Nowhere f = refl
-      go (At r) f = ap (after (definition_check t namespace o r)) (after_sure (called (defined_at t namespace o r)) f _)
+      go None f = refl
+      go (Some r) f = ap (after (definition_check t namespace o r)) (after_sure (called (defined_at t namespace o r)) f _)
 
   fixed_sure : (d p : ℕ) (o : Members) → Passes (definition_head t namespace o) → fixed_rows t (within namespace) d p o ≡ fixed_rows t member d p o
   unfolding fixed_rows
   fixed_sure d p o e = go o.size
     where
-      sized : (v : ℕ) (z : Size) → on_size z (λ size. definition t (within namespace) Fixed d p o size (note_of t o (over.Fixed size)) (λ own. read [])) (no NotASize v)
+      sized : (v : ℕ) (z : Option ℕ) → on_size z (λ size. definition t (within namespace) Fixed d p o size (note_of t o (over.Fixed size)) (λ own. read [])) (no NotASize v)
           ≡ on_size z (λ size. definition t member Fixed d p o size (note_of t o (over.Fixed size)) (λ own. read [])) (no NotASize v)
-      sized v (Value size) = definition_sure Fixed d p o size (note_of t o (over.Fixed size)) (λ own. read []) e
-      sized v NoSize = refl
+      sized v (Some size) = definition_sure Fixed d p o size (note_of t o (over.Fixed size)) (λ own. read []) e
+      sized v None = refl
 
-      go : (s : Spot) → on_spot s (λ v. on_size (size_of t v) (λ size. definition t (within namespace) Fixed d p o size (note_of t o (over.Fixed size)) (λ own. read [])) (no NotASize v)) (no SizeMissing p)
+      go : (s : Option ℕ) → on_spot s (λ v. on_size (size_of t v) (λ size. definition t (within namespace) Fixed d p o size (note_of t o (over.Fixed size)) (λ own. read [])) (no NotASize v)) (no SizeMissing p)
           ≡ on_spot s (λ v. on_size (size_of t v) (λ size. definition t member Fixed d p o size (note_of t o (over.Fixed size)) (λ own. read [])) (no NotASize v)) (no SizeMissing p)
-      go (At v) = sized v (size_of t v)
-      go Nowhere = refl
+      go (Some v) = sized v (size_of t v)
+      go None = refl
 
   form_sure : (schema : Around → ℕ → ℕ → Out) (d : ℕ) (f : Form) → Passes (head_of t namespace f) → schema_by schema t (within namespace) d f ≡ schema_by schema t member d f
   unfolding schema_by head_of word_rows part_rows union_rows record_rows enum_rows member
@@ -89,13 +85,13 @@ module _ (t namespace : List ℕ) (u q : ℕ) where
   form_sure schema d (form.FixedOf p) e = fixed_sure d p (members_of t p) e
   form_sure schema d (form.Wrong f) e = refl
 
-  schema_sure : (left d : ℕ) → member_check t namespace u q ≡ Fine → schema_of left t (around namespace Alone) d q ≡ schema_of left t (around namespace (MemberOf u q)) d q
+  schema_sure : (left d : ℕ) → member_check t namespace u q ≡ Ok tt → schema_of left t (around namespace Alone) d q ≡ schema_of left t (around namespace (MemberOf u q)) d q
   unfolding schema_of member Passes
   schema_sure zero d e = refl
   schema_sure (suc left) d e = form_sure (schema_of left t) d (form_of t q) e
 
   -- as the code reads it, and as the definition does
-  pub member_is : (left d place : ℕ) {s : Standing} → s ≡ standing_of u q place → (q < place → member_check t namespace u q ≡ Fine)
+  pub member_is : (left d place : ℕ) {s : Standing} → s ≡ standing_of u q place → (q < place → member_check t namespace u q ≡ Ok tt)
       → schema_of left t (around namespace (MemberOf u q)) d q ≡ schema_of left t (around namespace s) d q
   member_is left d place {s} e f = go (ltb q place) refl e
     where
@@ -105,16 +101,16 @@ module _ (t namespace : List ℕ) (u q : ℕ) where
 
 -- ---- the members that are left
 
-module _ (t namespace : List ℕ) (u place : ℕ) {s : Spot} where
+module _ (t namespace : List ℕ) (u place : ℕ) {s : Option ℕ} where
   pub sure_start : Sure t namespace u place → s ≡ first_element t u → SureOf t namespace u place (elements_at t s)
   sure_start h e = subst (λ (l : List ℕ). SureOf t namespace u place l) (sym (left_start t u e)) h.sure
 
-  module _ (h : SureOf t namespace u place (elements_at t s)) {q : ℕ} (e : s ≡ At q) where
-    sure_both : {s' : Spot} → s' ≡ next_element t q → SureOf t namespace u place (q ∷ elements_at t s')
+  module _ (h : SureOf t namespace u place (elements_at t s)) {q : ℕ} (e : s ≡ Some q) where
+    sure_both : {s' : Option ℕ} → s' ≡ next_element t q → SureOf t namespace u place (q ∷ elements_at t s')
     sure_both f = subst (λ (l : List ℕ). SureOf t namespace u place l) (left_next t e f) h
 
-    pub sure_here : q < place → member_check t namespace u q ≡ Fine
+    pub sure_here : q < place → member_check t namespace u q ≡ Ok tt
     sure_here = (sure_both refl).0
 
-    pub sure_next : {s' : Spot} → s' ≡ next_element t q → SureOf t namespace u place (elements_at t s')
+    pub sure_next : {s' : Option ℕ} → s' ≡ next_element t q → SureOf t namespace u place (elements_at t s')
     sure_next f = (sure_both f).1

@@ -1,12 +1,11 @@
 -- Loops over places: what is read at those that are left.
 -- Assumes nothing.
+use Rattle.std.specs.Prelude.{Option, Some, None}
 use mathlib.Core.Path.{◌≡◌, refl, sym, ap, ◌∙◌, subst}
 use mathlib.Core.Bool.{Bool, true, false, cond}
 use mathlib.Core.List.{List, [], ◌∷◌}
 use Prim.Native.Nat.{ℕ, ◌<◌}
 use lib.ListN.{length}
-use Rattle.view.specs.declared.space.Spot.{Spot}
-use Rattle.view.specs.declared.space.Spot.TheVariants.{At, Nowhere}
 use Rattle.view.specs.Values.{shape_at}
 use Rattle.view.specs.Elements.{first_element, next_element, elements_at, elements}
 use Rattle.view.proofs.Laws.{All, Inside, elements_inside, left_start, left_done, left_next}
@@ -23,19 +22,19 @@ module _ (reads : ℕ → Out) where
   unfolding each
   each_one p ps = refl
 
-  module _ (t : List ℕ) {s : Spot} where
-    pub each_done : s ≡ Nowhere → each reads (elements_at t s) ≡ read []
+  module _ (t : List ℕ) {s : Option ℕ} where
+    pub each_done : s ≡ None → each reads (elements_at t s) ≡ read []
     each_done e = ap (each reads) (left_done t e) ∙ each_none
 
-    pub each_next : {p : ℕ} {s' : Spot} → s ≡ At p → s' ≡ next_element t p → each reads (elements_at t s) ≡ and_then (reads p) (each reads (elements_at t s'))
+    pub each_next : {p : ℕ} {s' : Option ℕ} → s ≡ Some p → s' ≡ next_element t p → each reads (elements_at t s) ≡ and_then (reads p) (each reads (elements_at t s'))
     each_next {p} {s'} e f = ap (each reads) (left_next t e f) ∙ each_one p (elements_at t s')
 
     -- the objects alone
-    pub objects_done : s ≡ Nowhere → each reads (objects_among t (elements_at t s)) ≡ read []
+    pub objects_done : s ≡ None → each reads (objects_among t (elements_at t s)) ≡ read []
     unfolding objects_among
     objects_done e = ap (λ (l : List ℕ). each reads (objects_among t l)) (left_done t e) ∙ each_none
 
-    pub objects_next : {p : ℕ} {s' : Spot} → s ≡ At p → s' ≡ next_element t p
+    pub objects_next : {p : ℕ} {s' : Option ℕ} → s ≡ Some p → s' ≡ next_element t p
         → each reads (objects_among t (elements_at t s)) ≡ and_then (cond (is_object (shape_at t p)) (reads p) (read [])) (each reads (objects_among t (elements_at t s')))
     unfolding objects_among
     objects_next {p} {s'} e f =
@@ -46,18 +45,18 @@ module _ (reads : ℕ → Out) where
         go false l = none_then (each reads l)
 
 -- all places that are left are within the text
-abbrev pub AllWithin : List ℕ → Spot → Type 0
+abbrev pub AllWithin : List ℕ → Option ℕ → Type 0
 AllWithin t s = All (λ q. q < length t) (elements_at t s)
 
 wider : (t : List ℕ) (p : ℕ) (l : List ℕ) → All (Inside t p) l → All (λ q. q < length t) l
 wider t p [] h = tt
 wider t p (q ∷ l) h = (h.0.within, wider t p l h.1)
 
-pub within_start : (t : List ℕ) (p : ℕ) {s : Spot} → s ≡ first_element t p → AllWithin t s
+pub within_start : (t : List ℕ) (p : ℕ) {s : Option ℕ} → s ≡ first_element t p → AllWithin t s
 within_start t p e = subst (All (λ q. q < length t)) (sym (left_start t p e)) (wider t p (elements t p) (elements_inside t p))
 
-pub within_first : (t : List ℕ) {s : Spot} {p : ℕ} → AllWithin t s → s ≡ At p → p < length t
+pub within_first : (t : List ℕ) {s : Option ℕ} {p : ℕ} → AllWithin t s → s ≡ Some p → p < length t
 within_first t {s} {p} h e = (subst (All (λ q. q < length t)) (left_next t e refl) h).0
 
-pub within_next : (t : List ℕ) {s s' : Spot} {p : ℕ} → AllWithin t s → s ≡ At p → s' ≡ next_element t p → AllWithin t s'
+pub within_next : (t : List ℕ) {s s' : Option ℕ} {p : ℕ} → AllWithin t s → s ≡ Some p → s' ≡ next_element t p → AllWithin t s'
 within_next t h e f = (subst (All (λ q. q < length t)) (left_next t e f) h).1

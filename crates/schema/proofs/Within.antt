@@ -1,5 +1,6 @@
 -- What has a row stands within the text: names that passed their checks, brackets of forms.
 -- Assumes nothing.
+use Rattle.std.specs.Prelude.{Option, Some, None, Ok, Err, Result}
 use mathlib.Core.Path.{◌≡◌, refl, sym, ap, ◌∙◌}
 use mathlib.Core.Bool.{Bool, true, false, cond}
 use mathlib.Core.List.{List, [], ◌∷◌}
@@ -18,24 +19,19 @@ use Rattle.row.specs.declared.kind.Kind.TheVariants.{Reference}
 use Rattle.view.specs.Strings.{bytes_from, string_at}
 use Rattle.view.specs.Values.{shape_at, is_value}
 use Rattle.view.specs.Members.{members_of}
-use Rattle.view.specs.declared.space.Spot.{Spot}
-use Rattle.view.specs.declared.space.Spot.TheVariants.{At, Nowhere}
 use Rattle.view.specs.declared.shape.Shape.{Shape}
 use Rattle.view.specs.declared.shape.Shape.TheVariants as shape
 use Rattle.view.specs.declared.members.Members.{Members}
 use Rattle.view.proofs.Laws.{in_text, value_in_text}
 use Rattle.answer.specs.declared.refusal.Why.TheVariants.{TypeMissing, StringTooLong}
-use Rattle.form.specs.declared.check.Check.{Check}
-use Rattle.form.specs.declared.check.Check.TheVariants.{Fine, Bad}
-use Rattle.form.specs.declared.names.Named.{Named}
-use Rattle.form.specs.declared.names.Named.TheVariants.{Kept}
 use Rattle.form.specs.declared.forms.Form.{Form}
 use Rattle.form.specs.declared.forms.Form.TheVariants as form
-use Rattle.form.specs.Checks.{fault, must, ◌then◌}
+use Rattle.form.specs.Checks.{fault, must, ◌then◌, Check}
 use Rattle.form.specs.Spots.{on_spot, is_text}
 use Rattle.form.specs.Names.{not_a_name, kept, unreserved, simple_check, full_at, reference_check, alias_check, namespace_check, defined_at, definition_check, named, kept_in}
 use Rattle.form.specs.Forms.{word_kind, object_form, form_by, form_within, form_of, most_nested}
 use Rattle.form.proofs.Laws.{must_fine, then_fine, named_kept, kept_copied}
+use Rattle.answer.specs.declared.refusal.Fault.{Fault}
 
 -- ---- a string that is not empty has its quote
 
@@ -62,15 +58,15 @@ string_within t q e = go (eqb (byte_at t q) 34) refl e
     go true f g = in_text t q (byte_at t q) 34 refl (eqb-true (byte_at t q) 34 f) (omega arith)
     go false f g = never (sym g)
 
-named_within : (t : List ℕ) (q : ℕ) (c : Check) → (must (is_name (string_at t q)) (not_a_name is_name t q) then c) ≡ Fine → q < length t
+named_within : (t : List ℕ) (q : ℕ) (c : Check) → (must (is_name (string_at t q)) (not_a_name is_name t q) then c) ≡ Ok tt → q < length t
 named_within t q c e =
     string_within t q (name_some (string_at t q) (must_fine (is_name (string_at t q)) (not_a_name is_name t q) (then_fine (must (is_name (string_at t q)) (not_a_name is_name t q)) c e).0))
 
-kept_short : (s : List ℕ) (q : ℕ) → kept s q ≡ Fine → length s ≤ kept_limit
+kept_short : (s : List ℕ) (q : ℕ) → kept s q ≡ Ok tt → length s ≤ kept_limit
 unfolding is_short
 kept_short s q e = leb-true (length s) kept_limit (must_fine (leb (length s) kept_limit) (fault StringTooLong q) e)
 
-last_fine : (a b : Check) → (a then b) ≡ Fine → b ≡ Fine
+last_fine : (a b : Check) → (a then b) ≡ Ok tt → b ≡ Ok tt
 last_fine a b e = (then_fine a b e).1
 
 -- a string, of which s is the full name, that passed its checks
@@ -82,19 +78,19 @@ module _ (t : List ℕ) (q : ℕ) where
   pub word_within : eqb (kind_number (word_kind (string_at t q))) (kind_number Reference) ≡ false → q < length t
   word_within e = string_within t q (word_some (string_at t q) e)
 
-  pub simple_within : simple_check t q ≡ Fine → q < length t
+  pub simple_within : simple_check t q ≡ Ok tt → q < length t
   unfolding simple_check
   simple_within e =
       string_within t q (simple_some (string_at t q)
       (must_fine (is_simple (string_at t q)) (not_a_name is_simple t q) (then_fine (must (is_simple (string_at t q)) (not_a_name is_simple t q)) (kept (string_at t q) q) e).0))
 
-  pub reference_passed : (namespace : List ℕ) → reference_check t namespace q ≡ Fine → Passed t (full_at t namespace q) q
+  pub reference_passed : (namespace : List ℕ) → reference_check t namespace q ≡ Ok tt → Passed t (full_at t namespace q) q
   unfolding reference_check
   reference_passed namespace e =
       let k = kept (full_at t namespace q) q in
       record { within = named_within t q k e; short = kept_short (full_at t namespace q) q (last_fine (must (is_name (string_at t q)) (not_a_name is_name t q)) k e) }
 
-  pub alias_passed : (namespace : List ℕ) → alias_check t namespace q ≡ Fine → Passed t (full_at t namespace q) q
+  pub alias_passed : (namespace : List ℕ) → alias_check t namespace q ≡ Ok tt → Passed t (full_at t namespace q) q
   unfolding alias_check
   alias_passed namespace e =
       let full = full_at t namespace q in
@@ -104,7 +100,7 @@ module _ (t : List ℕ) (q : ℕ) where
         short = kept_short full q (last_fine (unreserved full q) (kept full q) (last_fine (must (is_name (string_at t q)) (not_a_name is_name t q)) k e));
       }
 
-  pub definition_passed : (enclosing : List ℕ) (m : Members) → definition_check t enclosing m q ≡ Fine → Passed t (defined_at t enclosing m q) q
+  pub definition_passed : (enclosing : List ℕ) (m : Members) → definition_check t enclosing m q ≡ Ok tt → Passed t (defined_at t enclosing m q) q
   unfolding definition_check
   definition_passed enclosing m e =
       let full = defined_at t enclosing m q in
@@ -118,7 +114,7 @@ module _ (t : List ℕ) (q : ℕ) where
 
 -- its full name lies in a buffer
 pub record Held (t s : List ℕ) (q n : ℕ) (check : Check) (buffer : List ℕ) : Type 0 where
-  pub fine : check ≡ Fine
+  pub fine : check ≡ Ok tt
   pub within : q < length t
   pub short : length s ≤ kept_limit
   pub room : n ≤ length buffer
@@ -126,29 +122,29 @@ pub record Held (t s : List ℕ) (q n : ℕ) (check : Check) (buffer : List ℕ)
   pub long : length (take (n - 0) (drop 0 buffer)) ≤ kept_limit
 
 kept_length : (check : Check) (m s : List ℕ) → length (kept_in m check s) ≡ length m
-kept_length Fine m s = length_store m 0 s
-kept_length (Bad f) m s = refl
+kept_length (Ok tt) m s = length_store m 0 s
+kept_length (Err f) m s = refl
 
-held : (t s m : List ℕ) (q : ℕ) (check : Check) {m' : List ℕ} {r : Named} {n : ℕ} → (check ≡ Fine → Passed t s q)
-    → (r ≡ named check s) × (m' ≡ kept_in m check s) → r ≡ Kept n → length m' ≡ kept_limit → Held t s q n check m'
+held : (t s m : List ℕ) (q : ℕ) (check : Check) {m' : List ℕ} {r : Result ℕ Fault} {n : ℕ} → (check ≡ Ok tt → Passed t s q)
+    → (r ≡ named check s) × (m' ≡ kept_in m check s) → r ≡ Ok n → length m' ≡ kept_limit → Held t s q n check m'
 held t s m q check {m'} {r} {n} p e g l =
     let a = named_kept check s (sym g ∙ e.0) in
     let b = p a.0 in
     let d = kept_copied check s m (sym g ∙ e.0) e.1 b.short (sym (kept_length check m s) ∙ sym (ap length e.1) ∙ l) in
     record { fine = a.0; within = b.within; short = b.short; room = d.room; front = d.front; long = rw d.front b.short }
 
-module _ (t namespace m : List ℕ) (q : ℕ) {m' : List ℕ} {r : Named} {n : ℕ} where
+module _ (t namespace m : List ℕ) (q : ℕ) {m' : List ℕ} {r : Result ℕ Fault} {n : ℕ} where
   pub reference_held : (r ≡ named (reference_check t namespace q) (full_at t namespace q)) × (m' ≡ kept_in m (reference_check t namespace q) (full_at t namespace q))
-      → r ≡ Kept n → length m' ≡ kept_limit → Held t (full_at t namespace q) q n (reference_check t namespace q) m'
+      → r ≡ Ok n → length m' ≡ kept_limit → Held t (full_at t namespace q) q n (reference_check t namespace q) m'
   reference_held e g l = held t (full_at t namespace q) m q (reference_check t namespace q) (reference_passed t q namespace) e g l
 
   pub alias_held : (r ≡ named (alias_check t namespace q) (full_at t namespace q)) × (m' ≡ kept_in m (alias_check t namespace q) (full_at t namespace q))
-      → r ≡ Kept n → length m' ≡ kept_limit → Held t (full_at t namespace q) q n (alias_check t namespace q) m'
+      → r ≡ Ok n → length m' ≡ kept_limit → Held t (full_at t namespace q) q n (alias_check t namespace q) m'
   alias_held e g l = held t (full_at t namespace q) m q (alias_check t namespace q) (alias_passed t q namespace) e g l
 
   pub definition_held : (o : Members) → (r ≡ named (definition_check t namespace o q) (defined_at t namespace o q))
       × (m' ≡ kept_in m (definition_check t namespace o q) (defined_at t namespace o q))
-      → r ≡ Kept n → length m' ≡ kept_limit → Held t (defined_at t namespace o q) q n (definition_check t namespace o q) m'
+      → r ≡ Ok n → length m' ≡ kept_limit → Held t (defined_at t namespace o q) q n (definition_check t namespace o q) m'
   definition_held o e g l = held t (defined_at t namespace o q) m q (definition_check t namespace o q) (definition_passed t q namespace o) e g l
 
 -- ---- the bracket of an array, a map or a union stands within the text
@@ -175,7 +171,7 @@ module _ (t : List ℕ) where
       (either (same w (ascii "enum")) (form.EnumOf p) _ tt
       (either (same w (ascii "fixed")) (form.FixedOf p) _ tt
       (either (same w (ascii "array")) (form.ArrayOf p) _ h
-      (either (same w (ascii "map")) (form.MapOf p) (form.Word q (At p)) h tt))))
+      (either (same w (ascii "map")) (form.MapOf p) (form.Word q (Some p)) h tt))))
 
   shape_within : (p : ℕ) (s : Shape) → shape_at t p ≡ s → is_value s ≡ true → p < length t
   shape_within p s e v = value_in_text t p (byte_at t p) refl (ap is_value e ∙ v)
@@ -186,9 +182,9 @@ module _ (t : List ℕ) where
   by_placed nested h p shape.Number e = tt
   by_placed nested h p shape.Object e = go (members_of t p).typed
     where
-      go : (s : Spot) → Placed t (on_spot s (λ q. cond (is_text (shape_at t q)) (object_form (string_at t q) p q) (nested q)) (form.Wrong (fault TypeMissing p)))
-      go (At q) = either (is_text (shape_at t q)) (object_form (string_at t q) p q) (nested q) (object_placed (string_at t q) p q (shape_within p shape.Object e refl)) (h q)
-      go Nowhere = tt
+      go : (s : Option ℕ) → Placed t (on_spot s (λ q. cond (is_text (shape_at t q)) (object_form (string_at t q) p q) (nested q)) (form.Wrong (fault TypeMissing p)))
+      go (Some q) = either (is_text (shape_at t q)) (object_form (string_at t q) p q) (nested q) (object_placed (string_at t q) p q (shape_within p shape.Object e refl)) (h q)
+      go None = tt
   by_placed nested h p shape.Array e = shape_within p shape.Array e refl
   by_placed nested h p shape.Word e = tt
   by_placed nested h p shape.Nothing e = tt

@@ -1,6 +1,6 @@
 -- What the contracts of the walk cite: from a draft and counts, the rows that were read were pushed.
 -- Assumes nothing.
-use Rattle.std.specs.Prelude.{ℕ, ◌+◌, ◌-◌, ◌*◌, ◌≤◌, ◌<◌, ◌≡◌, cond, List, [], ◌∷◌, eqb, length, take, drop}
+use Rattle.std.specs.Prelude.{ℕ, ◌+◌, ◌-◌, ◌*◌, ◌≤◌, ◌<◌, ◌≡◌, cond, List, [], ◌∷◌, eqb, length, take, drop, Option, Some, Ok, Err}
 use Rattle.answer.specs.declared.counts.Counts.{Counts}
 use Rattle.answer.specs.declared.refusal.Why.TheVariants.{NameMissing, SymbolsMissing}
 use Rattle.name.specs.Name.{namespace_part}
@@ -11,8 +11,6 @@ use Rattle.row.specs.declared.kind.Kind.{Kind}
 use Rattle.row.specs.declared.kind.Kind.TheVariants.{Bytes, Reference}
 use Rattle.row.specs.declared.Entry.{Entry}
 use Rattle.row.specs.Memory.{counted_all, pushed_all}
-use Rattle.view.specs.declared.space.Spot.{Spot}
-use Rattle.view.specs.declared.space.Spot.TheVariants.{At}
 use Rattle.view.specs.declared.members.Members.{Members}
 use Rattle.view.specs.Elements.{elements}
 use Rattle.view.specs.Strings.{string_at}
@@ -26,17 +24,15 @@ use Rattle.form.specs.Forms.{word_kind, most_nested}
 use Rattle.form.specs.declared.note.Plain.TheVariants as over
 use Rattle.form.specs.Notes.{noted, note_of}
 use Rattle.rules.specs.Symbols.{symbols_check, default_check}
-use Rattle.schema.specs.declared.walked.Walked.{Walked}
-use Rattle.schema.specs.declared.walked.Walked.TheVariants.{Read, Bad}
 use Rattle.schema.specs.declared.walked.Defined.{Defined}
 use Rattle.schema.specs.declared.walked.Defined.TheVariants as defined
-use Rattle.schema.specs.Out.{Out, refused, read, rows_then, and_then, after, no, each}
+use Rattle.schema.specs.Out.{Out, refused, read, rows_then, and_then, after, no, each, Walked}
 use Rattle.schema.specs.Schema.{Around, row_with, new_name, new_kind, reference_rows, alias_rows, field_alias_rows, field_row, kept_check, field_rows, symbol_rows}
 
 -- from the draft m with the counts c, a function that answered r and left m' did what o says; a draft that was refused holds anything
 abbrev pub Did' : List ℕ → Counts → List ℕ → Walked → Out → Type 0
-Did' m c m' r (refused f) = r ≡ Bad f
-Did' m c m' r (read rows) = (r ≡ Read (counted_all c rows)) × (m' ≡ pushed_all m c rows)
+Did' m c m' r (refused f) = r ≡ Err f
+Did' m c m' r (read rows) = (r ≡ Ok (counted_all c rows)) × (m' ≡ pushed_all m c rows)
 
 pub record Did (m : List ℕ) (c : Counts) (m' : List ℕ) (r : Walked) (o : Out) : Type 0 where
   pub did : Did' m c m' r o
@@ -78,7 +74,7 @@ word_with t a d q m =
     (primitive_with t a d (word_kind (string_at t q)) q m)
 
 -- a definition up to its aliases, its full name being known
-unfoldable pub headed : List ℕ → Around → Entry → List ℕ → Spot → Out
+unfoldable pub headed : List ℕ → Around → Entry → List ℕ → Option ℕ → Out
 headed t a e full aliases =
     new_name t a full (rows_then (row_of e full ∷ []) (each (alias_rows t (namespace_part full) (e.depth + 1)) (aliases_in t aliases)))
 
@@ -111,8 +107,8 @@ unfoldable pub element_rows : (ℕ → ℕ → Out) → List ℕ → ℕ → ℕ
 element_rows schema t d p = cond (is_object (shape_at t p)) (field_rows schema t d p) (read [])
 
 -- a value's place, where there is one, stands within the text
-pub record InText (t : List ℕ) (s : Spot) : Type 0 where
-  pub within : (v : ℕ) → s ≡ At v → v < length t
+pub record InText (t : List ℕ) (s : Option ℕ) : Type 0 where
+  pub within : (v : ℕ) → s ≡ Some v → v < length t
 
 -- what a walk asks: each schema in a schema is at most two deeper
 pub record Asks (t : List ℕ) (depth left : ℕ) : Type 0 where

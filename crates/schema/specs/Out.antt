@@ -1,12 +1,15 @@
 -- What reading a declaration, or a part of one, gives: its first fault, or its rows in preorder.
 -- Assumes nothing.
-use Rattle.std.specs.Prelude.{ℕ, List, [], ◌∷◌, ◌++◌}
+use Rattle.std.specs.Prelude.{ℕ, List, [], ◌∷◌, ◌++◌, Result, Ok, Err}
+use Rattle.answer.specs.declared.counts.Counts.{Counts}
 use Rattle.answer.specs.declared.refusal.Why.{Why}
 use Rattle.answer.specs.declared.refusal.Fault.{Fault}
 use Rattle.row.specs.Rows.{Row}
-use Rattle.form.specs.declared.check.Check.{Check}
-use Rattle.form.specs.declared.check.Check.TheVariants.{Fine, Bad}
-use Rattle.form.specs.Checks.{fault}
+use Rattle.form.specs.Checks.{fault, Check}
+
+-- what a walk answers: the counts with the rows that were read, or the first fault
+abbrev pub Walked : Type 0
+Walked = Result Counts Fault
 
 pub data Out : Type 0 where
   refused : Fault → Out
@@ -24,8 +27,8 @@ and_then (read rs) next = rows_then rs next
 
 -- a check, then what comes
 abbrev pub after : Check → Out → Out
-after Fine next = next
-after (Bad f) next = refused f
+after (Ok _) next = next
+after (Err f) next = refused f
 
 abbrev pub no : Why → ℕ → Out
 no why at = refused (fault why at)

@@ -1,6 +1,6 @@
 -- From a declaration's text to its rows, section "Rows" of document 01.
 -- Assumes nothing.
-use Rattle.std.specs.Prelude.{ℕ, zero, suc, ◌+◌, ◌-◌, cond, List, [], ◌∷◌, eqb}
+use Rattle.std.specs.Prelude.{ℕ, zero, suc, ◌+◌, ◌-◌, cond, List, [], ◌∷◌, eqb, Option, Ok}
 use Rattle.answer.specs.declared.refusal.Why.TheVariants.{NestedTooDeep, TypeMissing, NameMissing, FieldsMissing, SymbolsMissing, SizeMissing, NotASize, ItemsMissing, ValuesMissing, DefaultTooLong}
 use Rattle.ground.specs.Bytes.{part}
 use Rattle.json_scan.specs.Json.{scanned}
@@ -12,7 +12,6 @@ use Rattle.row.specs.Kinds.{kind_number}
 use Rattle.row.specs.Rows.{Row}
 use Rattle.row.specs.declared.kind.Kind.{Kind}
 use Rattle.row.specs.declared.kind.Kind.TheVariants.{Bytes, Reference, Array, Map, Union, Record, Enum, Fixed, Field, Symbol, Alias, FieldAlias}
-use Rattle.view.specs.declared.space.Spot.{Spot}
 use Rattle.view.specs.Values.{value_start}
 use Rattle.view.specs.Ends.{end_of}
 use Rattle.view.specs.Elements.{elements}
@@ -22,13 +21,11 @@ use Rattle.view.specs.Members.{members_of}
 use Rattle.view.specs.declared.members.Members.{Members}
 use Rattle.form.specs.declared.forms.Form.{Form}
 use Rattle.form.specs.declared.forms.Form.TheVariants as form
-use Rattle.form.specs.declared.check.Check.{Check}
-use Rattle.form.specs.declared.check.Check.TheVariants.{Fine}
 use Rattle.form.specs.declared.note.Note.{Note}
 use Rattle.form.specs.declared.note.Plain.TheVariants as over
 use Rattle.rules.specs.declared.standing.Standing.{Standing}
 use Rattle.rules.specs.declared.standing.Standing.TheVariants.{Alone, MemberOf}
-use Rattle.form.specs.Checks.{fault, must, ◌then◌}
+use Rattle.form.specs.Checks.{fault, must, ◌then◌, Check}
 use Rattle.form.specs.Spots.{on_spot, as_text, as_array, aliases_in, fields_in}
 use Rattle.form.specs.Names.{simple_check, full_at, reference_check, alias_check, defined_at, definition_check}
 use Rattle.form.specs.Forms.{word_kind, form_of, most_nested}
@@ -82,12 +79,12 @@ reference_rows t a d q =
     (new_name t a (full_at t a.namespace q) (read (row Reference d q (full_at t a.namespace q))))
 
 -- the primitive at q: of bytes the object o that it is the `type` of may say that it is a decimal
-unfoldable pub primitive_rows : List ℕ → Around → ℕ → Kind → ℕ → Spot → Out
+unfoldable pub primitive_rows : List ℕ → Around → ℕ → Kind → ℕ → Option ℕ → Out
 primitive_rows t a d kind q o =
     new_kind t a kind
     (read (row_with kind d q [] 0 (cond (eqb (kind_number kind) (kind_number Bytes)) (on_spot o (λ p. note_of t (members_of t p) over.Bytes) (noted 0)) (noted 0)) ∷ []))
 
-unfoldable pub word_rows : List ℕ → Around → ℕ → Kind → ℕ → Spot → Out
+unfoldable pub word_rows : List ℕ → Around → ℕ → Kind → ℕ → Option ℕ → Out
 word_rows t a d kind q o = cond (eqb (kind_number kind) (kind_number Reference)) (reference_rows t a d q) (primitive_rows t a d kind q o)
 
 -- ---- definitions, by the object at p and its members m, the name at q
@@ -122,7 +119,7 @@ unfoldable pub written_at : List ℕ → ℕ → List ℕ
 written_at t v = part t v (end_of t v - v)
 
 -- the row of the field whose name stands at q: with a default it keeps the default's text and position
-unfoldable pub field_row : List ℕ → ℕ → ℕ → Spot → Row
+unfoldable pub field_row : List ℕ → ℕ → ℕ → Option ℕ → Row
 field_row t d q default = record {
   kind = Field;
   depth = d;
@@ -136,8 +133,8 @@ field_row t d q default = record {
 }
 
 -- 48: a default has at most 255 bytes as it is written
-unfoldable pub kept_check : List ℕ → Spot → Check
-kept_check t default = on_spot default (λ v. must (is_short (written_at t v)) (fault DefaultTooLong v)) Fine
+unfoldable pub kept_check : List ℕ → Option ℕ → Check
+kept_check t default = on_spot default (λ v. must (is_short (written_at t v)) (fault DefaultTooLong v)) (Ok tt)
 
 -- the field, its aliases, its default's length, its type, which `schema` reads
 unfoldable pub field_rows : (ℕ → ℕ → Out) → List ℕ → ℕ → ℕ → Out
@@ -186,7 +183,7 @@ fixed_rows t a d p m =
 -- ---- arrays, maps, unions
 
 -- the object at p and its one part
-unfoldable pub part_rows : (Around → ℕ → ℕ → Out) → List ℕ → Around → Kind → ℕ → ℕ → Spot → Out → Out
+unfoldable pub part_rows : (Around → ℕ → ℕ → Out) → List ℕ → Around → Kind → ℕ → ℕ → Option ℕ → Out → Out
 part_rows schema t a kind d p part missing =
     new_kind t a kind (on_spot part (λ q. rows_then (row kind d p []) (schema (within a.namespace) (d + 1) q)) missing)
 

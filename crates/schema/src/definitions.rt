@@ -19,7 +19,7 @@ use name::{Full, namespace_part};
 use row::write::push;
 use row::{Entry, Kind};
 use rules::{Standing, default_check, new_name, symbols_check};
-use view::{Members, Size, Spot, size_literal};
+use view::{Members, size_literal};
 
 // 19, the row with the full name, the aliases, which see the full name's namespace.
 fn put_definition(
@@ -29,7 +29,7 @@ fn put_definition(
     standing: Standing,
     row: Entry,
     full: &[u8],
-    aliases: Spot,
+    aliases: Option<usize>,
     draft: &mut [u8],
     counts: Counts,
     word: &mut [u8; Scan::TEXT],
@@ -38,8 +38,8 @@ fn put_definition(
     ensures { Did draft.old counts draft.new result (headed text.now (around namespace.now standing) row full.now aliases) }
 {
     match new_name(text, ends, namespace, standing, full, word) {
-        Check::Bad(f) => Walked::Bad(f),
-        Check::Fine => {
+        Err(f) => Err(f),
+        Ok(()) => {
             let depth = row.depth;
             let next = push(draft, counts, row, full);
             let first = first_alias(text, ends, aliases);
@@ -78,15 +78,15 @@ pub(crate) fn define(
     ensures { Titled draft.old counts draft.new result full.new (name_of text.now namespace.now members) (head_rows text.now (around namespace.now standing) kind depth at members size note) }
 {
     let name = members.name;
-    let Spot::At(q) = as_text(text, name) else {
+    let Some(q) = as_text(text, name) else {
         return Defined::Bad(Fault {
             why: Why::NameMissing,
             at,
         });
     };
     match definition(text, ends, namespace, members, q, word, full) {
-        Named::Wrong(f) => Defined::Bad(f),
-        Named::Kept(n) => {
+        Err(f) => Defined::Bad(f),
+        Ok(n) => {
             let row = entry(kind, depth, q, size, note);
             let aliases = members.aliases;
             let all = &full[..];
@@ -102,8 +102,8 @@ pub(crate) fn define(
                 counts,
                 word,
             ) {
-                Walked::Bad(f) => Defined::Bad(f),
-                Walked::Read(next) => Defined::As(n, next),
+                Err(f) => Defined::Bad(f),
+                Ok(next) => Defined::As(n, next),
             }
         }
     }
@@ -127,18 +127,18 @@ fn put_checked_symbols(
     ensures { Did draft.old counts draft.new result (symbols_rows text.now depth at members) }
 {
     let symbols = members.symbols;
-    let Spot::At(v) = as_array(text, symbols) else {
-        return Walked::Bad(Fault {
+    let Some(v) = as_array(text, symbols) else {
+        return Err(Fault {
             why: Why::SymbolsMissing,
             at,
         });
     };
-    if let Check::Bad(f) = symbols_check(text, ends, v, table, word) {
-        return Walked::Bad(f);
+    if let Err(f) = symbols_check(text, ends, v, table, word) {
+        return Err(f);
     }
     let default = members.default;
-    if let Check::Bad(f) = default_check(text, ends, default, v) {
-        return Walked::Bad(f);
+    if let Err(f) = default_check(text, ends, default, v) {
+        return Err(f);
     }
     put_symbols(text, ends, depth, v, draft, counts, word)
 }
@@ -181,7 +181,7 @@ pub(crate) fn put_enum(
         0,
         none,
     ) {
-        Defined::Bad(f) => Walked::Bad(f),
+        Defined::Bad(f) => Err(f),
         Defined::As(_, next) => {
             put_checked_symbols(text, ends, depth + 1, at, members, draft, next, word, table)
         }
@@ -206,18 +206,18 @@ pub(crate) fn put_fixed(
     ensures { Did draft.old counts draft.new result (fixed_rows text.now (around namespace.now standing) depth at members) }
 {
     let spot = members.size;
-    let Spot::At(v) = spot else {
-        return Walked::Bad(Fault {
+    let Some(v) = spot else {
+        return Err(Fault {
             why: Why::SizeMissing,
             at,
         });
     };
     match size_literal(text, v) {
-        Size::NoSize => Walked::Bad(Fault {
+        None => Err(Fault {
             why: Why::NotASize,
             at: v,
         }),
-        Size::Value(size) => {
+        Some(size) => {
             let mut full: [u8; Full::LONGEST] = [0; Full::LONGEST];
             let note = decimal_note(text, ends, members, Plain::Fixed(size));
             match define(
@@ -236,8 +236,8 @@ pub(crate) fn put_fixed(
                 size,
                 note,
             ) {
-                Defined::Bad(f) => Walked::Bad(f),
-                Defined::As(_, next) => Walked::Read(next),
+                Defined::Bad(f) => Err(f),
+                Defined::As(_, next) => Ok(next),
             }
         }
     }

@@ -20,7 +20,7 @@ use json_scan::Scan;
 use name::Full;
 use row::Kind;
 use rules::field_names;
-use view::{Members, Spot, end};
+use view::{Members, end};
 
 // The row of the field whose name stands at `at`; with a default it keeps the default's text and position.
 fn put_field_row(
@@ -28,7 +28,7 @@ fn put_field_row(
     ends: &[u16],
     depth: u16,
     at: usize,
-    default: Spot,
+    default: Option<usize>,
     draft: &mut [u8],
     counts: Counts,
     word: &mut [u8; Scan::TEXT],
@@ -37,7 +37,7 @@ fn put_field_row(
     ensures { (result ≡ counted counts (length (strings_of (field_row text.now depth at default))))
         × (draft.new ≡ pushed draft.old counts (field_row text.now depth at default)) }
 {
-    let Spot::At(v) = default else {
+    let Some(v) = default else {
         return put_string(text, ends, Kind::Field, depth, at, draft, counts, word);
     };
     let none = Note {
@@ -51,21 +51,21 @@ fn put_field_row(
 }
 
 // 48: as it is written, a default has at most the bytes that are kept of a string.
-fn kept_check(text: &[u8], ends: &[u16], default: Spot) -> Check
+fn kept_check(text: &[u8], ends: &[u16], default: Option<usize>) -> Check
     requires { InText text.now default × Known text.now ends.now }
     ensures { result ≡ kept_check text.now default }
 {
-    let Spot::At(v) = default else {
-        return Check::Fine;
+    let Some(v) = default else {
+        return Ok(());
     };
     let stop = end(text, ends, v);
     if Full::LONGEST < stop - v {
-        return Check::Bad(Fault {
+        return Err(Fault {
             why: Why::DefaultTooLong,
             at: v,
         });
     }
-    Check::Fine
+    Ok(())
 }
 
 // The field at `at` with these members: its name, its row, its aliases, its default's length.
@@ -83,24 +83,24 @@ pub(crate) fn put_field_head(
     ensures { Did draft.old counts draft.new result (field_head text.now depth at members) }
 {
     let name = members.name;
-    let Spot::At(q) = as_text(text, name) else {
-        return Walked::Bad(Fault {
+    let Some(q) = as_text(text, name) else {
+        return Err(Fault {
             why: Why::NameMissing,
             at,
         });
     };
-    if let Check::Bad(f) = simple_check(text, ends, q, word) {
-        return Walked::Bad(f);
+    if let Err(f) = simple_check(text, ends, q, word) {
+        return Err(f);
     }
     let default = members.default;
     let next = put_field_row(text, ends, depth, q, default, draft, counts, word);
     let aliases = members.aliases;
     let first = first_alias(text, ends, aliases);
     match put_field_aliases(text, ends, depth + 1, first, draft, next, word) {
-        Walked::Bad(f) => Walked::Bad(f),
-        Walked::Read(last) => match kept_check(text, ends, default) {
-            Check::Bad(f) => Walked::Bad(f),
-            Check::Fine => Walked::Read(last),
+        Err(f) => Err(f),
+        Ok(last) => match kept_check(text, ends, default) {
+            Err(f) => Err(f),
+            Ok(()) => Ok(last),
         },
     }
 }
@@ -117,7 +117,7 @@ pub(crate) fn named_apart(
     ensures { (m : List ℕ) → Did m counts m result (after (field_names_check text.now [] (fields_in text.now array)) (read [])) }
 {
     match field_names(text, ends, array, table) {
-        Check::Bad(f) => Walked::Bad(f),
-        Check::Fine => Walked::Read(counts),
+        Err(f) => Err(f),
+        Ok(()) => Ok(counts),
     }
 }

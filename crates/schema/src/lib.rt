@@ -59,7 +59,7 @@ pub fn declare(text: &[u8], draft: &mut [u8]) -> Walked
     ensures { Did draft.old no_counts draft.new result (declared text.now) }
 {
     if let Scan::Bad(f) = scan(text) {
-        return Walked::Bad(f);
+        return Err(f);
     }
     if text.len() <= SHORT {
         let mut few: [u16; SHORT] = [0; SHORT];

@@ -19,7 +19,7 @@ use json_scan::Scan;
 use name::Full;
 use row::write::{push, push_both};
 use row::{Entry, Kind};
-use view::{Spot, first_element, literal, next_element, string_copy};
+use view::{first_element, literal, next_element, string_copy};
 
 // The row of a kind at a depth, all but its string.
 pub(crate) fn entry(kind: Kind, depth: u16, at: usize, size: u64, note: Note) -> Entry
@@ -126,11 +126,11 @@ fn put_alias(
     ensures { Did draft.old counts draft.new result (alias_rows text.now namespace.now depth at) }
 {
     match alias(text, ends, namespace, at, word, full) {
-        Named::Wrong(f) => Walked::Bad(f),
-        Named::Kept(n) => {
+        Err(f) => Err(f),
+        Ok(n) => {
             let all = &full[..];
             let next = put(draft, counts, Kind::Alias, depth, at, &all[0..n]);
-            Walked::Read(next)
+            Ok(next)
         }
     }
 }
@@ -141,7 +141,7 @@ pub(crate) fn put_aliases(
     ends: &[u16],
     namespace: &[u8],
     depth: u16,
-    first: Spot,
+    first: Option<usize>,
     draft: &mut [u8],
     counts: Counts,
     word: &mut [u8; Scan::TEXT],
@@ -153,12 +153,12 @@ pub(crate) fn put_aliases(
     let mut sum = counts;
     let mut spot = first;
     loop {
-        let Spot::At(p) = spot else {
-            return Walked::Read(sum);
+        let Some(p) = spot else {
+            return Ok(sum);
         };
         match put_alias(text, ends, namespace, word, &mut full, draft, sum, depth, p) {
-            Walked::Bad(f) => return Walked::Bad(f),
-            Walked::Read(next) => {
+            Err(f) => return Err(f),
+            Ok(next) => {
                 sum = next;
             }
         }
@@ -181,10 +181,10 @@ fn put_field_alias(
     ensures { Did draft.old counts draft.new result (field_alias_rows text.now depth at) }
 {
     match simple_check(text, ends, at, word) {
-        Check::Bad(f) => Walked::Bad(f),
-        Check::Fine => {
+        Err(f) => Err(f),
+        Ok(()) => {
             let next = put_string(text, ends, Kind::FieldAlias, depth, at, draft, counts, word);
-            Walked::Read(next)
+            Ok(next)
         }
     }
 }
@@ -194,7 +194,7 @@ pub(crate) fn put_field_aliases(
     text: &[u8],
     ends: &[u16],
     depth: u16,
-    first: Spot,
+    first: Option<usize>,
     draft: &mut [u8],
     counts: Counts,
     word: &mut [u8; Scan::TEXT],
@@ -205,12 +205,12 @@ pub(crate) fn put_field_aliases(
     let mut sum = counts;
     let mut spot = first;
     loop {
-        let Spot::At(p) = spot else {
-            return Walked::Read(sum);
+        let Some(p) = spot else {
+            return Ok(sum);
         };
         match put_field_alias(text, ends, depth, p, draft, sum, word) {
-            Walked::Bad(f) => return Walked::Bad(f),
-            Walked::Read(next) => {
+            Err(f) => return Err(f),
+            Ok(next) => {
                 sum = next;
             }
         }
@@ -235,8 +235,8 @@ pub(crate) fn put_symbols(
     let mut sum = counts;
     let mut spot = first_element(text, array);
     loop {
-        let Spot::At(p) = spot else {
-            return Walked::Read(sum);
+        let Some(p) = spot else {
+            return Ok(sum);
         };
         sum = put_string(text, ends, Kind::Symbol, depth, p, draft, sum, word);
         spot = next_element(text, ends, p);

@@ -20,7 +20,7 @@ use json_scan::Scan;
 use name::{Full, namespace_part};
 use row::Kind;
 use rules::{Standing, new_kind, stands, surely_new};
-use view::{Members, Spot, first_element, members_at, next_element};
+use view::{Members, first_element, members_at, next_element};
 
 // The schema at `at`, in which `left` may nest.
 #[cycle(put_field_put_fields_put_part_put_record_put_schema_put_union)]
@@ -41,7 +41,7 @@ pub(crate) fn put_schema(
     ensures { Did draft.old counts draft.new result (schema_of left text.now (around namespace.now standing) depth at) }
 {
     if left == 0 {
-        return Walked::Bad(Fault {
+        return Err(Fault {
             why: Why::NestedTooDeep,
             at,
         });
@@ -54,7 +54,7 @@ pub(crate) fn put_schema(
     let less = left - 1;
     let mut full: [u8; Full::LONGEST] = [0; Full::LONGEST];
     match form {
-        Form::Wrong(f) => Walked::Bad(f),
+        Form::Wrong(f) => Err(f),
         Form::Word(q, _) => put_word(
             text, ends, namespace, word, &mut full, draft, counts, standing, depth, q, members,
         ),
@@ -115,7 +115,7 @@ fn put_part(
     standing: Standing,
     kind: Kind,
     at: usize,
-    part: Spot,
+    part: Option<usize>,
     missing: Why,
     depth: u16,
     left: usize,
@@ -127,11 +127,11 @@ fn put_part(
     requires { Asks text.now (depth + 1) left × (at < 65536) × Known text.now ends.now × Sized table.old }
     ensures { Did draft.old counts draft.new result (part_rows (schema_of left text.now) text.now (around namespace.now standing) kind depth at part (refused (fault missing at))) }
 {
-    if let Check::Bad(f) = new_kind(text, ends, standing, kind) {
-        return Walked::Bad(f);
+    if let Err(f) = new_kind(text, ends, standing, kind) {
+        return Err(f);
     }
-    let Spot::At(q) = part else {
-        return Walked::Bad(Fault { why: missing, at });
+    let Some(q) = part else {
+        return Err(Fault { why: missing, at });
     };
     let next = put(draft, counts, kind, depth, at, b"");
     put_schema(
@@ -167,15 +167,15 @@ fn put_union(
     requires { Asks text.now (depth + 1) left × (at < 65536) × Known text.now ends.now × Sized table.old }
     ensures { Did draft.old counts draft.new result (union_rows (schema_of left text.now) text.now (around namespace.now standing) depth at) }
 {
-    if let Check::Bad(f) = new_kind(text, ends, standing, Kind::Union) {
-        return Walked::Bad(f);
+    if let Err(f) = new_kind(text, ends, standing, Kind::Union) {
+        return Err(f);
     }
     let sure = surely_new(text, ends, namespace, at, table, word);
     let mut sum = put(draft, counts, Kind::Union, depth, at, b"");
     let mut spot = first_element(text, at);
     loop {
-        let Spot::At(p) = spot else {
-            return Walked::Read(sum);
+        let Some(p) = spot else {
+            return Ok(sum);
         };
         let member = stands(at, p, sure);
         match put_schema(
@@ -191,8 +191,8 @@ fn put_union(
             word,
             table,
         ) {
-            Walked::Bad(f) => return Walked::Bad(f),
-            Walked::Read(next) => {
+            Err(f) => return Err(f),
+            Ok(next) => {
                 sum = next;
             }
         }
@@ -241,11 +241,11 @@ fn put_record(
         0,
         none,
     ) {
-        Defined::Bad(f) => Walked::Bad(f),
+        Defined::Bad(f) => Err(f),
         Defined::As(n, next) => {
             let fields = members.fields;
-            let Spot::At(v) = as_array(text, fields) else {
-                return Walked::Bad(Fault {
+            let Some(v) = as_array(text, fields) else {
+                return Err(Fault {
                     why: Why::FieldsMissing,
                     at,
                 });
@@ -288,14 +288,14 @@ fn put_fields(
     let mut sum = counts;
     let mut spot = first_element(text, array);
     loop {
-        let Spot::At(p) = spot else {
+        let Some(p) = spot else {
             return named_apart(text, ends, array, sum, table);
         };
         match put_field(
             text, ends, namespace, p, depth, left, draft, sum, word, table,
         ) {
-            Walked::Bad(f) => return Walked::Bad(f),
-            Walked::Read(next) => {
+            Err(f) => return Err(f),
+            Ok(next) => {
                 sum = next;
             }
         }
@@ -321,15 +321,15 @@ fn put_field(
     ensures { Did draft.old counts draft.new result (element_rows (schema_of left text.now (within namespace.now)) text.now depth at) }
 {
     if !is_object(text, at) {
-        return Walked::Read(counts);
+        return Ok(counts);
     }
     let members = members_at(text, ends, at);
     match put_field_head(text, ends, depth, at, members, draft, counts, word) {
-        Walked::Bad(f) => Walked::Bad(f),
-        Walked::Read(next) => {
+        Err(f) => Err(f),
+        Ok(next) => {
             let typed = members.typed;
-            let Spot::At(q) = typed else {
-                return Walked::Bad(Fault {
+            let Some(q) = typed else {
+                return Err(Fault {
                     why: Why::TypeMissing,
                     at,
                 });

@@ -38,14 +38,14 @@ fn put_reference(
     ensures { Did draft.old counts draft.new result (reference_rows text.now (around namespace.now standing) depth at) }
 {
     match reference(text, ends, namespace, at, word, full) {
-        Named::Wrong(f) => Walked::Bad(f),
-        Named::Kept(n) => {
+        Err(f) => Err(f),
+        Ok(n) => {
             let all = &full[..];
             match new_name(text, ends, namespace, standing, &all[0..n], word) {
-                Check::Bad(f) => Walked::Bad(f),
-                Check::Fine => {
+                Err(f) => Err(f),
+                Ok(()) => {
                     let next = put(draft, counts, Kind::Reference, depth, at, &all[0..n]);
-                    Walked::Read(next)
+                    Ok(next)
                 }
             }
         }
@@ -84,12 +84,12 @@ fn put_primitive(
     ensures { Did draft.old counts draft.new result (primitive_with text.now (around namespace.now standing) depth kind at members) }
 {
     match new_kind(text, ends, standing, kind) {
-        Check::Bad(f) => Walked::Bad(f),
-        Check::Fine => {
+        Err(f) => Err(f),
+        Ok(()) => {
             let note = note_of(text, ends, kind, members);
             let row = entry(kind, depth, at, 0, note);
             let next = push(draft, counts, row, b"");
-            Walked::Read(next)
+            Ok(next)
         }
     }
 }

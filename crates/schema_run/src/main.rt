@@ -35,8 +35,8 @@ fn put_counts(stdout: &mut Output, out: &mut [u8], at: usize, counts: Counts) ->
 // The answer to a text.
 fn answer(stdout: &mut Output, text: &[u8], draft: &mut [u8], out: &mut [u8]) -> usize {
     match schema::declare(text, draft) {
-        Walked::Bad(f) => put_fault(stdout, out, 0, f),
-        Walked::Read(counts) => {
+        Err(f) => put_fault(stdout, out, 0, f),
+        Ok(counts) => {
             let at = put_draft(stdout, out, draft, counts);
             put_counts(stdout, out, at, counts)
         }

@@ -1,5 +1,6 @@
 -- One declaration more, with 47: its defaults are asked behind the tests of join, in the memory that holds it.
 -- Assumes nothing.
+use Rattle.std.specs.Prelude.{Ok, Err, Result}
 use mathlib.Core.Path.{◌≡◌, refl, sym, ap, ap₂, ◌∙◌}
 use mathlib.Core.Bool.{Bool, true, false, cond}
 use mathlib.Core.List.{List, [], ◌∷◌, ◌++◌}
@@ -9,8 +10,6 @@ use lib.Dec.{ltb}
 use lib.ListN.{length, take, drop, length-append}
 use lib.Seq.{take_all, drop-append_seam}
 use borrow.Author.Tests.{ltb-false}
-use Rattle.answer.specs.declared.Answer.{Answer}
-use Rattle.answer.specs.declared.Answer.TheVariants.{Done, Refused}
 use Rattle.answer.specs.declared.counts.Counts.{Counts}
 use Rattle.answer.specs.declared.refusal.Why.TheVariants.{TooManyRows, TooManyStringBytes}
 use Rattle.answer.specs.declared.refusal.Refusal.{Refusal}
@@ -91,13 +90,13 @@ module _ (ds : List (List Row)) (rows : List Row) where
 
 -- ---- the tests of append: n and bytes stand for rows in `from`, and join answered a and left m' of m
 
-module _ (m «from» : List ℕ) (start n bytes : ℕ) (a : Answer) (m' : List ℕ) (did : (rows : List Row) → Drafted «from» start n bytes rows → Ended m m' a (joined (decode m) rows)) where
-  pub append_refused : {r : Refusal} → a ≡ Refused r → (rows : List Row) → Drafted «from» start n bytes rows → Ended m' m' a (append (decode m) rows)
+module _ (m «from» : List ℕ) (start n bytes : ℕ) (a : Result Counts Refusal) (m' : List ℕ) (did : (rows : List Row) → Drafted «from» start n bytes rows → Ended m m' a (joined (decode m) rows)) where
+  pub append_refused : {r : Refusal} → a ≡ Err r → (rows : List Row) → Drafted «from» start n bytes rows → Ended m' m' a (append (decode m) rows)
   append_refused {r} g rows d = ended_by (sym g) (ended_no m' r (append_joined (decode m) rows ∙ rw (told_no (joined (decode m) rows) (did rows d).answer g)))
 
   -- c counts the set that m holds
   module _ (w : well_formed m ≡ true) (free : count_in m < declaration_limit) (c : Counts) (e : c ≡ counts_in m) where
-    module _ {k : Counts} (g : a ≡ Done k) where
+    module _ {k : Counts} (g : a ≡ Ok k) where
       module _ (rows : List Row) (d : Drafted «from» start n bytes rows) where
         told : (l : List (List Row)) × (joined (decode m) rows ≡ becomes l) × (k ≡ set_counts l)
         told = told_done (joined (decode m) rows) (did rows d).answer g
@@ -145,10 +144,10 @@ module _ (m «from» : List ℕ) (start n bytes : ℕ) (a : Answer) (m' : List �
             append_joined (decode m) rows ∙ rw ((told rows d).1, ← h)
 
         pub append_misfit : {x : Fault} → f ≡ Faulty x → (rows : List Row) → Drafted «from» start n bytes rows → {r : Refusal} → r ≡ placed x c.declarations
-            → Ended m' m' (Refused r) (append (decode m) rows)
+            → Ended m' m' (Err r) (append (decode m) rows)
         append_misfit b rows d h = rw h (ended_no m' _ (tested rows d ∙ rw (b, places_are m w c e)))
 
-        pub append_done : f ≡ Resolved → (rows : List Row) → Drafted «from» start n bytes rows → Ended m' m' (Done k) (append (decode m) rows)
+        pub append_done : f ≡ Resolved → (rows : List Row) → Drafted «from» start n bytes rows → Ended m' m' (Ok k) (append (decode m) rows)
         append_done b rows d = ended_done m' (told rows d).0 (tested rows d ∙ rw b) (told rows d).2 (holds rows d ∙ ap encode (sym (made rows d).is))
 
 -- ---- memory behind a declaration that was accepted
@@ -158,8 +157,8 @@ pub record Stepped (o : List ℕ) (rows : List Row) (o' : List ℕ) : Type 0 whe
   pub well : well_formed o' ≡ true
   pub more : count_in o' ≡ count_in o + 1
 
-pub stepped : {o o' : List ℕ} {rows : List Row} {a : Answer} {c : Counts} → well_formed o ≡ true → count_in o < declaration_limit → is_declaration rows ≡ true
-    → Ended o' o' a (append (decode o) rows) → a ≡ Done c → Stepped o rows o'
+pub stepped : {o o' : List ℕ} {rows : List Row} {a : Result Counts Refusal} {c : Counts} → well_formed o ≡ true → count_in o < declaration_limit → is_declaration rows ≡ true
+    → Ended o' o' a (append (decode o) rows) → a ≡ Ok c → Stepped o rows o'
 unfolding memory_of
 stepped {o} {o'} {rows} {a} {c} w l g e f =
     let t = told_done (append (decode o) rows) e.answer f in
@@ -190,6 +189,6 @@ module _ (draft : List ℕ) (n bytes : ℕ) {b : Bool} (asked : n ≤ row_limit 
           let k : rows_from draft n 0 ≡ rows = (d.fits h (omega (arith, d.strings, j.room))).1 in
           rw (none_fit (flat ds ++ rows) rows (ap (some has_default) (sym k) ∙ sym (asked h) ∙ none))
 
-  pub joined_last : {m m' : List ℕ} {r : Answer} (ds : List (List Row)) → ((rows : List Row) → Drafted draft 0 n bytes rows → Ended m m' r (joined ds rows))
+  pub joined_last : {m m' : List ℕ} {r : Result Counts Refusal} (ds : List (List Row)) → ((rows : List Row) → Drafted draft 0 n bytes rows → Ended m m' r (joined ds rows))
       → (rows : List Row) → Drafted draft 0 n bytes rows → Ended m m' r (append ds rows)
   joined_last ds did rows d = ended_as (join_alone ds rows d) (did rows d)

@@ -1,5 +1,6 @@
 -- One declaration more, but for 47: its rows written behind those of a set, and the four tests before that.
 -- Assumes nothing.
+use Rattle.std.specs.Prelude.{Ok, Err, Result}
 use mathlib.Core.Path.{◌≡◌, refl, sym, ap, ap₂, ◌∙◌}
 use mathlib.Core.Bool.{true, false}
 use mathlib.Core.List.{List, [], ◌∷◌, ◌++◌, append-nil}
@@ -8,8 +9,6 @@ use native.Mathlib.Omega.{arith}
 use lib.Dec.{ltb}
 use lib.ListN.{length, length-append}
 use borrow.Author.Tests.{lt-ltb, le-ltb}
-use Rattle.answer.specs.declared.Answer.{Answer}
-use Rattle.answer.specs.declared.Answer.TheVariants.{Done, Refused}
 use Rattle.answer.specs.Answers.{numbers_of, of_counts}
 use Rattle.answer.proofs.Laws.{refusal_one, counts_one, never_both}
 use Rattle.answer.specs.declared.counts.Counts.{Counts}
@@ -38,29 +37,29 @@ use Rattle.set.proofs.Places.{is_encoded, is_good, is_long, is_count, is_counts,
 
 -- ---- what a call answers, and leaves in memory
 
-pub ended_no : (m : List ℕ) (r : Refusal) {x : Result} → x ≡ refuses r → Ended m m (Refused r) x
+pub ended_no : (m : List ℕ) (r : Refusal) {x : Result} → x ≡ refuses r → Ended m m (Err r) x
 unfolding answer_of memory_of
 ended_no m r e = record { answer = sym (ap answer_of e); memory = rw e }
 
-pub ended_done : (m : List ℕ) (ds : List (List Row)) {x : Result} → x ≡ becomes ds → {c : Counts} {m' : List ℕ} → c ≡ set_counts ds → m' ≡ encode ds → Ended m m' (Done c) x
+pub ended_done : (m : List ℕ) (ds : List (List Row)) {x : Result} → x ≡ becomes ds → {c : Counts} {m' : List ℕ} → c ≡ set_counts ds → m' ≡ encode ds → Ended m m' (Ok c) x
 unfolding answer_of memory_of
 ended_done m ds e p q = record { answer = ap of_counts p ∙ sym (ap answer_of e); memory = rw (e, q) }
 
-pub ended_as : {m m' : List ℕ} {r : Answer} {x y : Result} → x ≡ y → Ended m m' r y → Ended m m' r x
+pub ended_as : {m m' : List ℕ} {r : Result Counts Refusal} {x y : Result} → x ≡ y → Ended m m' r y → Ended m m' r x
 ended_as e d = record { answer = d.answer ∙ ap answer_of (sym e); memory = d.memory ∙ ap (memory_of _) (sym e) }
 
 -- the same of an equal answer
-pub ended_by : {m m' : List ℕ} {a b : Answer} {x : Result} → a ≡ b → Ended m m' a x → Ended m m' b x
+pub ended_by : {m m' : List ℕ} {a b : Result Counts Refusal} {x : Result} → a ≡ b → Ended m m' a x → Ended m m' b x
 ended_by e d = record { answer = ap numbers_of (sym e) ∙ d.answer; memory = d.memory }
 
 -- ---- what an answer tells
 
-pub told_no : (x : Result) {a : Answer} {r : Refusal} → numbers_of a ≡ answer_of x → a ≡ Refused r → x ≡ refuses r
+pub told_no : (x : Result) {a : Result Counts Refusal} {r : Refusal} → numbers_of a ≡ answer_of x → a ≡ Err r → x ≡ refuses r
 unfolding answer_of
 told_no (becomes d) {r = r} p q = absurd (never_both r _ _ _ (sym (ap numbers_of q) ∙ p))
 told_no (refuses s) {r = r} p q = ap refuses (refusal_one s r (sym p ∙ ap numbers_of q))
 
-pub told_done : (x : Result) {a : Answer} {c : Counts} → numbers_of a ≡ answer_of x → a ≡ Done c → (d : List (List Row)) × (x ≡ becomes d) × (c ≡ set_counts d)
+pub told_done : (x : Result) {a : Result Counts Refusal} {c : Counts} → numbers_of a ≡ answer_of x → a ≡ Ok c → (d : List (List Row)) × (x ≡ becomes d) × (c ≡ set_counts d)
 unfolding answer_of
 told_done (becomes d) {c = c} p q = (d, refl, counts_one c (set_counts d) (sym (ap numbers_of q) ∙ p))
 told_done (refuses s) p q = absurd (never_both s _ _ _ (sym p ∙ ap numbers_of q))
@@ -121,8 +120,8 @@ module _ (m : List ℕ) (w : well_formed m ≡ true) (c : Counts) (e : c ≡ cou
   bytes_most = omega (arith, bytes_are, (is_good m w).strings)
 
   module _ («from» : List ℕ) (start n bytes : ℕ) where
-    pub join_rows : row_limit - c.rows < n → (rows : List Row) → Drafted «from» start n bytes rows → {r : Answer}
-        → r ≡ Refused (record { why = TooManyRows; place = c.declarations; at = 0 }) → Ended m m r (joined (decode m) rows)
+    pub join_rows : row_limit - c.rows < n → (rows : List Row) → Drafted «from» start n bytes rows → {r : Result Counts Refusal}
+        → r ≡ Err (record { why = TooManyRows; place = c.declarations; at = 0 }) → Ended m m r (joined (decode m) rows)
     unfolding joined
     join_rows h rows d g =
         let k : row_limit < length (flat (decode m)) + length rows = omega (arith, rows_are, d.counted, rows_most) in
@@ -132,8 +131,8 @@ module _ (m : List ℕ) (w : well_formed m ≡ true) (c : Counts) (e : c ≡ cou
       rows_pass : (rows : List Row) → Drafted «from» start n bytes rows → ltb row_limit (length (flat (decode m)) + length rows) ≡ false
       rows_pass rows d = le-ltb row_limit (length (flat (decode m)) + length rows) (omega (arith, rows_are, rows_most, d.counted))
 
-      pub join_strings : string_limit - c.string_bytes < bytes → (rows : List Row) → Drafted «from» start n bytes rows → {r : Answer}
-          → r ≡ Refused (record { why = TooManyStringBytes; place = c.declarations; at = 0 }) → Ended m m r (joined (decode m) rows)
+      pub join_strings : string_limit - c.string_bytes < bytes → (rows : List Row) → Drafted «from» start n bytes rows → {r : Result Counts Refusal}
+          → r ≡ Err (record { why = TooManyStringBytes; place = c.declarations; at = 0 }) → Ended m m r (joined (decode m) rows)
       unfolding joined
       join_strings h rows d g =
           let k : string_limit < length (texts (flat (decode m))) + length (texts rows) = omega (arith, bytes_are, d.strings, bytes_most) in
@@ -162,7 +161,7 @@ module _ (m : List ℕ) (w : well_formed m ≡ true) (c : Counts) (e : c ≡ cou
           tested rows d = rw (rows_pass rows d, strings_pass rows d, ← faults rows d)
 
           pub join_fault : {x : Fault} → f ≡ Faulty x → (rows : List Row) → Drafted «from» start n bytes rows → {r : Refusal} → r ≡ placed x c.declarations
-              → Ended m m (Refused r) (joined (decode m) rows)
+              → Ended m m (Err r) (joined (decode m) rows)
           join_fault b rows d g = rw g (ended_no m _ (tested rows d ∙ rw (b, places_are)))
 
           module _ (room : count_in m < declaration_limit) (b : f ≡ Resolved) where
@@ -171,7 +170,7 @@ module _ (m : List ℕ) (w : well_formed m ≡ true) (c : Counts) (e : c ≡ cou
                 more_within (decode m) rows (is_good m w) (omega (arith, is_count m w)) (omega (arith, rows_are, rows_most, d.counted)) (omega (arith, bytes_are, bytes_most, d.strings)) d.kept
 
             pub join_done : {s : Counts} {m' : List ℕ} → s ≡ counted_more c (rows_from «from» n start) → m' ≡ pushed_more m c (rows_from «from» n start)
-                → (rows : List Row) → Drafted «from» start n bytes rows → Ended m m' (Done s) (joined (decode m) rows)
+                → (rows : List Row) → Drafted «from» start n bytes rows → Ended m m' (Ok s) (joined (decode m) rows)
             join_done p q rows d =
                 let g : Within (decode m ++ (rows ∷ [])) = more_is rows d in
                 let l : rows_from «from» n start ≡ rows = (lies rows d).1 in

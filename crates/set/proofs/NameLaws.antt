@@ -1,5 +1,6 @@
 -- The full name of a row and where it lies, test by test.
 -- Assumes nothing.
+use Rattle.std.specs.Prelude.{Ok, Err, Result}
 use mathlib.Core.Path.{◌≡◌, refl, sym, ap, ap₂, ◌∙◌}
 use mathlib.Core.Bool.{Bool, true, false, cond}
 use mathlib.Core.List.{List, [], ◌∷◌, ◌++◌}
@@ -25,10 +26,9 @@ use Rattle.formed.specs.WellFormed.{well_formed}
 use Rattle.resolve.proofs.MemoryLaws.{rows_cons}
 use Rattle.resolve.proofs.RuleLaws.{no_bytes}
 use Rattle.set.specs.Naming.{has_full_name, name_among, name_in, full_name_in, start_among, start_in, full_name_start, numbers_of_naming, naming_of}
-use Rattle.set.specs.declared.naming.Naming.{Naming}
-use Rattle.set.specs.declared.naming.Naming.TheVariants.{Named, Refused}
 use Rattle.set.specs.Steps.{row_name, row_name_start, refused_name}
 use Rattle.set.proofs.Places.{Place, is_encoded, is_within, is_long, is_count, is_good, is_before, place_of}
+use Rattle.answer.specs.declared.refusal.Refusal.{Refusal}
 
 -- ---- lists
 
@@ -233,22 +233,22 @@ module _ (m : List ℕ) (place row : ℕ) where
   unfolding full_name_in full_name_start
   full_none p w = rw w (refl, refl)
 
-  pub naming_not : well_formed m ≡ false → {r : Naming} → r ≡ refused_name NotWellFormed place → numbers_of_naming r ≡ naming_of m place row
+  pub naming_not : well_formed m ≡ false → {r : Result ℕ Refusal} → r ≡ refused_name NotWellFormed place → numbers_of_naming r ≡ naming_of m place row
   unfolding naming_of
   naming_not w g = rw w (ap numbers_of_naming g)
 
   module _ (w : well_formed m ≡ true) (x : List ℕ) (e : x ≡ name_in (decode m) place row) where
-    pub naming_none : length x ≡ 0 → {r : Naming} → r ≡ refused_name NoSuchPlace place → numbers_of_naming r ≡ naming_of m place row
+    pub naming_none : length x ≡ 0 → {r : Result ℕ Refusal} → r ≡ refused_name NoSuchPlace place → numbers_of_naming r ≡ naming_of m place row
     unfolding naming_of
     naming_none h g = rw (w, ← e, ← no_bytes x, eq-eqb (length x) 0 h) (ap numbers_of_naming g)
 
-    pub naming_done : (length x ≡ 0 → ⊥) → numbers_of_naming (Named (length x)) ≡ naming_of m place row
+    pub naming_done : (length x ≡ 0 → ⊥) → numbers_of_naming (Ok (length x)) ≡ naming_of m place row
     unfolding naming_of
     naming_done h = rw (w, ← e, ← no_bytes x, ne_eqb (length x) 0 h)
 
 -- the numbers tell the answer
-pub naming_one : (a b : Naming) → numbers_of_naming a ≡ numbers_of_naming b → a ≡ b
-naming_one (Named n) (Named k) e = ap Named (first e)
-naming_one (Named n) (Refused s) e = absurd (never_both s _ _ _ (sym e))
-naming_one (Refused r) (Named k) e = absurd (never_both r _ _ _ e)
-naming_one (Refused r) (Refused s) e = ap Refused (refusal_one r s e)
+pub naming_one : (a b : Result ℕ Refusal) → numbers_of_naming a ≡ numbers_of_naming b → a ≡ b
+naming_one (Ok n) (Ok k) e = ap Ok (first e)
+naming_one (Ok n) (Err s) e = absurd (never_both s _ _ _ (sym e))
+naming_one (Err r) (Ok k) e = absurd (never_both r _ _ _ e)
+naming_one (Err r) (Err s) e = ap Err (refusal_one r s e)

@@ -1,13 +1,12 @@
 -- The declarations before a place, copied, and those behind it, appended in turn.
 -- Assumes nothing.
+use Rattle.std.specs.Prelude.{Ok, Err, Result}
 use mathlib.Core.Path.{◌≡◌, refl, sym, ap, ap₂, ◌∙◌}
 use mathlib.Core.Bool.{true}
 use mathlib.Core.List.{List, [], ◌∷◌, ◌++◌}
 use Prim.Native.Nat.{ℕ, ◌+◌, ◌-◌, ◌<◌, ◌≤◌}
 use native.Mathlib.Omega.{arith}
 use lib.ListN.{length, take, drop, length-take, length-replicate, drop_of_length-le}
-use Rattle.answer.specs.declared.Answer.{Answer}
-use Rattle.answer.specs.declared.Answer.TheVariants.{Done, Refused}
 use Rattle.answer.specs.declared.counts.Counts.{Counts}
 use Rattle.answer.specs.declared.refusal.Refusal.{Refusal}
 use Rattle.answer.specs.Limits.{no_counts}
@@ -125,7 +124,7 @@ module _ (m : List ℕ) (w : well_formed m ≡ true) (i : ℕ) (l : i < count_in
     pub rest_asks : (well_formed out ≡ true) × (count_in out < declaration_limit) × IsDraft m start n (b - a)
     rest_asks = (z.well, omega (arith, z.count, place_few m w i l), record { rows = (here m w i l).rows; drafted = drafted })
 
-    module _ (out' : List ℕ) (r : Answer) (did : (rows : List Row) → Drafted m start n (b - a) rows → Ended out' out' r (append (decode out) rows)) where
+    module _ (out' : List ℕ) (r : Result Counts Refusal) (did : (rows : List Row) → Drafted m start n (b - a) rows → Ended out' out' r (append (decode out) rows)) where
       was : Ended out' out' r (append (decode out) (here m w i l).rows)
       was = did (here m w i l).rows drafted
 
@@ -133,10 +132,10 @@ module _ (m : List ℕ) (w : well_formed m ≡ true) (i : ℕ) (l : i < count_in
       unfolding append_all
       turns = z.left ∙ ap (append_all (decode out)) (here m w i l).first
 
-      pub rest_refused : (s : Refusal) → r ≡ Refused s → (o : List ℕ) → Ended o o (Refused s) x
+      pub rest_refused : (s : Refusal) → r ≡ Err s → (o : List ℕ) → Ended o o (Err s) x
       rest_refused s g o = ended_no o s (turns ∙ rw (told_no (append (decode out) (here m w i l).rows) was.answer g))
 
-      pub rest_more : (c : Counts) → r ≡ Done c → Left x m out' (start + n) (i + 1)
+      pub rest_more : (c : Counts) → r ≡ Ok c → Left x m out' (start + n) (i + 1)
       unfolding flat
       rest_more c g =
           let t : Stepped out (here m w i l).rows out' = stepped z.well (omega (arith, z.count, place_few m w i l)) (here m w i l).kept was g in
@@ -147,7 +146,7 @@ module _ (m : List ℕ) (w : well_formed m ≡ true) (i : ℕ) (l : i < count_in
             left = turns ∙ rw t.ok;
           }
 
-pub rest_end : (m : List ℕ) → well_formed m ≡ true → (i : ℕ) → count_in m ≤ i → (x : Result) (out : List ℕ) (start : ℕ) → Left x m out start i → (c : Counts) → c ≡ counts_in out → Ended out out (Done c) x
+pub rest_end : (m : List ℕ) → well_formed m ≡ true → (i : ℕ) → count_in m ≤ i → (x : Result) (out : List ℕ) (start : ℕ) → Left x m out start i → (c : Counts) → c ≡ counts_in out → Ended out out (Ok c) x
 unfolding append_all
 rest_end m w i l x out start z c e =
     let h : length (decode m) ≤ i = omega (arith, is_count m w) in

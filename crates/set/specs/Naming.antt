@@ -1,7 +1,8 @@
 -- The full name of a row, by the place of its declaration and its number there, from 0, and where it lies in memory.
 -- Assumes nothing.
-use Rattle.std.specs.Prelude.{ℕ, zero, suc, ◌+◌, Bool, cond, ◌||◌, List, [], ◌∷◌, length}
+use Rattle.std.specs.Prelude.{ℕ, zero, suc, ◌+◌, Bool, cond, ◌||◌, List, [], ◌∷◌, length, Result, Ok, Err}
 use Rattle.answer.specs.declared.numbers.Numbers.{Numbers}
+use Rattle.answer.specs.declared.refusal.Refusal.{Refusal}
 use Rattle.answer.specs.Answers.{accepted, refused, of_refusal}
 use Rattle.name.specs.Name.{is_empty}
 use Rattle.row.specs.Layout.{strings_start}
@@ -11,8 +12,6 @@ use Rattle.row.specs.declared.kind.Kind.{Kind}
 use Rattle.row.specs.declared.kind.Kind.TheVariants.{Alias}
 use Rattle.resolve.specs.Kinds.{is_kind, is_named}
 use Rattle.formed.specs.WellFormed.{well_formed}
-use Rattle.set.specs.declared.naming.Naming.{Naming}
-use Rattle.set.specs.declared.naming.Naming.TheVariants.{Named, Refused}
 
 -- definitions, their aliases and references have a full name
 unfoldable pub has_full_name : Kind → Bool
@@ -54,9 +53,9 @@ full_name_start m place i = cond (well_formed m) (start_in strings_start (decode
 -- ---- why there is none
 
 -- 01's numbers for each case: 0 and the full name's length, or the refusal's number, place and position
-abbrev pub numbers_of_naming : Naming → Numbers
-numbers_of_naming (Named n) = accepted n 0 0
-numbers_of_naming (Refused r) = of_refusal r
+abbrev pub numbers_of_naming : Result ℕ Refusal → Numbers
+numbers_of_naming (Ok n) = accepted n 0 0
+numbers_of_naming (Err r) = of_refusal r
 
 -- 20, then 21 where there is no such place, no such row there, or it has no full name
 unfoldable pub naming_of : List ℕ → ℕ → ℕ → Numbers

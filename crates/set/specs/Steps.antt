@@ -1,7 +1,6 @@
 -- What private functions ask and promise.
 -- Assumes nothing.
-use Rattle.std.specs.Prelude.{ℕ, ◌+◌, ◌≤◌, min, ◌≡◌, true, cond, List, [], ◌∷◌, ◌++◌, ltb, length}
-use Rattle.answer.specs.declared.Answer.{Answer}
+use Rattle.std.specs.Prelude.{ℕ, ◌+◌, ◌≤◌, min, ◌≡◌, true, cond, List, [], ◌∷◌, ◌++◌, ltb, length, Ok, Err, Result}
 use Rattle.answer.specs.declared.counts.Counts.{Counts}
 use Rattle.answer.specs.declared.refusal.Why.{Why}
 use Rattle.answer.specs.declared.refusal.Why.TheVariants.{TooManyRows, TooManyStringBytes}
@@ -13,14 +12,11 @@ use Rattle.row.specs.Sets.{flat, rows_from}
 use Rattle.row.specs.Memory.{entry_at, text_at, text_place, most, counted_all, pushed_all, declared}
 use Rattle.resolve.specs.Rules.{is_declaration}
 use Rattle.resolve.specs.Resolve.{fault_in}
-use Rattle.schema.specs.Out.{Out, refused, read}
-use Rattle.schema.specs.declared.walked.Walked.{Walked}
-use Rattle.schema.specs.declared.walked.Walked.TheVariants.{Read, Bad}
+use Rattle.schema.specs.Out.{Out, refused, read, Walked}
 use Rattle.set.specs.Lists.{Result, becomes, refuse, on_resolved}
 use Rattle.set.specs.Calls.{answer_of, memory_of}
 use Rattle.set.specs.Naming.{has_full_name}
-use Rattle.set.specs.declared.naming.Naming.{Naming}
-use Rattle.set.specs.declared.naming.Naming.TheVariants.{Refused}
+use Rattle.answer.specs.declared.refusal.Refusal.{Refusal}
 
 -- the full name of a row of the memory, and where it begins
 unfoldable pub row_name : List ℕ → ℕ → List ℕ
@@ -30,8 +26,8 @@ unfoldable pub row_name_start : List ℕ → ℕ → ℕ
 row_name_start m i = cond (has_full_name (entry_at m i).kind) (text_place m i) 0
 
 -- there is no full name, for this reason
-abbrev pub refused_name : Why → ℕ → Naming
-refused_name why place = Refused (record { why = why; place = place; at = 0 })
+abbrev pub refused_name : Why → ℕ → Result ℕ Refusal
+refused_name why place = Err (record { why = why; place = place; at = 0 })
 
 -- rows behind those that are counted, as one declaration more: the counts, and the memory
 unfoldable pub counted_more : Counts → List Row → Counts
@@ -63,13 +59,13 @@ pub record IsDraft («from» : List ℕ) (start n bytes : ℕ) : Type 0 where
 
 -- a draft d that was written for a text that gives o, and the answer r: the text's fault, or counts that with the draft stand for its rows
 abbrev pub Wrote' : List ℕ → Walked → Out → Type 0
-Wrote' d r (refused f) = r ≡ Bad f
-Wrote' d r (read rows) = (c : Counts) × (r ≡ Read c) × Drafted d 0 c.rows c.string_bytes rows
+Wrote' d r (refused f) = r ≡ Err f
+Wrote' d r (read rows) = (c : Counts) × (r ≡ Ok c) × Drafted d 0 c.rows c.string_bytes rows
 
 pub record Wrote (d : List ℕ) (r : Walked) (o : Out) : Type 0 where
   pub wrote : Wrote' d r o
 
 -- memory that held m holds m', and the answer is r: what became of the set is x
-pub record Ended (m m' : List ℕ) (r : Answer) (x : Result) : Type 0 where
+pub record Ended (m m' : List ℕ) (r : Result Counts Refusal) (x : Result) : Type 0 where
   pub answer : numbers_of r ≡ answer_of x
   pub memory : m' ≡ memory_of m x

@@ -1,6 +1,5 @@
 // One declaration more: the one operation that changes a set.
-ghost use Rattle.std.specs.Prelude.{◌≡◌, true, List, ◌+◌, ◌≤◌, ◌<◌, length};
-ghost use Rattle.answer.specs.declared.Answer.TheVariants.{Refused};
+ghost use Rattle.std.specs.Prelude.{◌≡◌, true, List, ◌+◌, ◌≤◌, ◌<◌, length, Err};
 ghost use Rattle.row.specs.Layout.{declaration_limit, row_limit, layout_length};
 ghost use Rattle.row.specs.Rows.{Row};
 ghost use Rattle.row.specs.Sets.{count_in, rows_from, decode};
@@ -17,9 +16,9 @@ use row::write::{declare, push_rows};
 
 // A refusal that has no byte position.
 pub(crate) fn refused(why: Why, place: usize) -> Answer
-    ensures { result ≡ Refused (record { why = why; place = place; at = 0 }) }
+    ensures { result ≡ Err (record { why = why; place = place; at = 0 }) }
 {
-    Answer::Refused(Refusal {
+    Err(Refusal {
         why: why,
         place: place,
         at: 0,
@@ -54,8 +53,8 @@ pub(crate) fn join(mem: &mut [u8], from: &[u8], start: usize, n: usize, bytes: u
     }
     let names = first_fault(mem, sum.rows, from, start, n);
     match names {
-        Resolution::Faulty(f) => Answer::Refused(f.placed(place)),
-        Resolution::Resolved => Answer::Done(push(mem, sum, from, start, n)),
+        Resolution::Faulty(f) => Err(f.placed(place)),
+        Resolution::Resolved => Ok(push(mem, sum, from, start, n)),
     }
 }
 
@@ -79,12 +78,12 @@ pub(crate) fn append(out: &mut [u8], from: &[u8], start: usize, n: usize, bytes:
     let sum = counts(out);
     let a = join(out, from, start, n, bytes);
     match a {
-        Answer::Refused(r) => Answer::Refused(r),
-        Answer::Done(c) => {
+        Err(r) => Err(r),
+        Ok(c) => {
             let defaults = misfit(out, sum.rows, n);
             match defaults {
-                Resolution::Faulty(f) => Answer::Refused(f.placed(sum.declarations)),
-                Resolution::Resolved => Answer::Done(c),
+                Resolution::Faulty(f) => Err(f.placed(sum.declarations)),
+                Resolution::Resolved => Ok(c),
             }
         }
     }

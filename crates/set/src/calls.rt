@@ -31,7 +31,7 @@ pub fn open(mem: &mut [u8]) -> Answer
         return refused(Why::NotWellFormed, 0);
     }
     clear(mem);
-    Answer::Done(Counts::none())
+    Ok(Counts::none())
 }
 
 // The rows of a text in an empty draft, or its first fault.
@@ -70,13 +70,13 @@ fn append_from(out: &mut [u8], mem: &[u8], place: usize) -> Answer
         let bytes = strings_before(mem, end) - strings_before(mem, start);
         let a = append(out, mem, start, rows, bytes);
         match a {
-            Answer::Refused(r) => return Answer::Refused(r),
-            Answer::Done(_) => {}
+            Err(r) => return Err(r),
+            Ok(_) => {}
         }
         start = end;
         i += 1;
     }
-    Answer::Done(counts(out))
+    Ok(counts(out))
 }
 
 // Memory becomes what the scratch memory holds, unless that was refused.
@@ -85,10 +85,10 @@ fn settle(mem: &mut [u8], out: &[u8], a: Answer) -> Answer
     ensures { (x : Result) → Ended out.now out.now a x → Ended mem.old mem.new result x }
 {
     match a {
-        Answer::Refused(r) => Answer::Refused(r),
-        Answer::Done(c) => {
+        Err(r) => Err(r),
+        Ok(c) => {
             copy(mem, 0, out);
-            Answer::Done(c)
+            Ok(c)
         }
     }
 }
@@ -103,8 +103,8 @@ fn put_inside(mem: &mut [u8], place: usize, draft: &[u8], n: usize, bytes: usize
     copy_before(mem, place, &mut out);
     let a = append(&mut out, draft, 0, n, bytes);
     match a {
-        Answer::Refused(r) => return Answer::Refused(r),
-        Answer::Done(_) => {}
+        Err(r) => return Err(r),
+        Ok(_) => {}
     }
     let b = append_from(&mut out, mem, place + 1);
     settle(mem, &out, b)
@@ -165,7 +165,7 @@ pub fn put(mem: &mut [u8], place: usize, text: &[u8]) -> Answer
     let mut draft = [0u8; Layout::LENGTH];
     let read = read_text(text, &mut draft);
     match read {
-        Walked::Bad(f) => Answer::Refused(f.placed(place)),
-        Walked::Read(c) => put_rows(mem, place, &draft, c.rows, c.string_bytes),
+        Err(f) => Err(f.placed(place)),
+        Ok(c) => put_rows(mem, place, &draft, c.rows, c.string_bytes),
     }
 }

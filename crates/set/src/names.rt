@@ -80,7 +80,7 @@ pub fn full_name(mem: &[u8], place: usize, row: usize) -> &[u8]
 fn refused_name(why: Why, place: usize) -> Naming
     ensures { result ≡ refused_name why place }
 {
-    Naming::Refused(Refusal {
+    Err(Refusal {
         why: why,
         place: place,
         at: 0,
@@ -98,5 +98,5 @@ pub fn naming_of(mem: &[u8], place: usize, row: usize) -> Naming
     if name.len() == 0 {
         return refused_name(Why::NoSuchPlace, place);
     }
-    Naming::Named(name.len())
+    Ok(name.len())
 }

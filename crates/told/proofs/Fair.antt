@@ -1,5 +1,6 @@
 -- Faults that have a text's own number and, where it is 7, tell where a string breaks its rule; and what is made of them.
 -- Assumes nothing.
+use Rattle.std.specs.Prelude.{Option, Some, None, Ok, Err}
 use mathlib.Core.Path.{◌≡◌, refl, sym, ap, ◌∙◌}
 use mathlib.Core.Bool.{Bool, true, false, not, cond, ◌&&◌}
 use mathlib.Core.List.{List, [], ◌∷◌}
@@ -14,14 +15,10 @@ use Rattle.ground.specs.Bytes.{byte_at}
 use Rattle.ground.proofs.Laws.{never, and_true}
 use Rattle.name.proofs.Begin.{Lettered, simple_lettered, name_lettered, namespace_lettered}
 use Rattle.row.specs.Rows.{Row}
-use Rattle.view.specs.declared.space.Spot.{Spot}
-use Rattle.view.specs.declared.space.Spot.TheVariants.{At, Nowhere}
 use Rattle.view.specs.Strings.{string_at}
 use Rattle.view.proofs.Laws.{All}
 use Rattle.breach.proofs.Theorems.{breaks}
-use Rattle.form.specs.declared.check.Check.{Check}
-use Rattle.form.specs.declared.check.Check.TheVariants.{Fine, Bad}
-use Rattle.form.specs.Checks.{fault, must, ◌then◌}
+use Rattle.form.specs.Checks.{fault, must, ◌then◌, Check}
 use Rattle.form.specs.Spots.{on_spot}
 use Rattle.form.specs.Names.{not_a_name}
 use Rattle.schema.specs.Out.{Out, refused, read, rows_then, and_then, after, each}
@@ -48,8 +45,8 @@ module _ (t : List ℕ) where
 
   -- ---- checks
   abbrev pub FairCheck : Check → Type 0
-  FairCheck Fine = Unit {0}
-  FairCheck (Bad f) = Fair f
+  FairCheck (Ok tt) = Unit {0}
+  FairCheck (Err f) = Fair f
 
   pub must_fair : (b : Bool) (f : Fault) → (b ≡ false → Fair f) → FairCheck (must b f)
   must_fair true f h = tt
@@ -64,9 +61,9 @@ module _ (t : List ℕ) where
       must_fair (keeps_of r (string_at t q)) (not_a_name (keeps_of r) t q)
       (λ e. (refl, λ h. record { rule = r; quote = q; opens = o; fails = e; breaks = breaks (lettered r) t q o e }))
 
-  pub then_fair : (a b : Check) → FairCheck a → (a ≡ Fine → FairCheck b) → FairCheck (a then b)
-  then_fair Fine b f g = g refl
-  then_fair (Bad x) b f g = f
+  pub then_fair : (a b : Check) → FairCheck a → (a ≡ Ok tt → FairCheck b) → FairCheck (a then b)
+  then_fair (Ok tt) b f g = g refl
+  then_fair (Err x) b f g = f
 
   -- ---- what reading gives
   abbrev pub FairOut : Out → Type 0
@@ -74,8 +71,8 @@ module _ (t : List ℕ) where
   FairOut (read rows) = Unit {0}
 
   pub after_fair : (c : Check) (o : Out) → FairCheck c → FairOut o → FairOut (after c o)
-  after_fair Fine o f g = g
-  after_fair (Bad x) o f g = f
+  after_fair (Ok tt) o f g = g
+  after_fair (Err x) o f g = f
 
   pub rows_fair : (rs : List Row) (o : Out) → FairOut o → FairOut (rows_then rs o)
   rows_fair rs (refused f) g = g
@@ -90,9 +87,9 @@ module _ (t : List ℕ) where
   each_fair P reads h [] a = tt
   each_fair P reads h (q ∷ qs) a = and_fair (reads q) (each reads qs) (h q a.0) (each_fair P reads h qs a.1)
 
-  pub spot_fair : (s : Spot) (f : ℕ → Out) (none : Out) → ((q : ℕ) → s ≡ At q → FairOut (f q)) → FairOut none → FairOut (on_spot s f none)
-  spot_fair (At q) f none h g = h q refl
-  spot_fair Nowhere f none h g = g
+  pub spot_fair : (s : Option ℕ) (f : ℕ → Out) (none : Out) → ((q : ℕ) → s ≡ Some q → FairOut (f q)) → FairOut none → FairOut (on_spot s f none)
+  spot_fair (Some q) f none h g = h q refl
+  spot_fair None f none h g = g
 
   pub cond_fair : (b : Bool) (x y : Out) → FairOut x → FairOut y → FairOut (cond b x y)
   cond_fair true x y f g = f

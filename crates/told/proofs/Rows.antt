@@ -1,5 +1,6 @@
 -- Reading a schema, part by part: each fault is fair.
 -- Assumes nothing.
+use Rattle.std.specs.Prelude.{Option, Some, None}
 use mathlib.Core.Path.{◌≡◌, refl}
 use mathlib.Core.Bool.{Bool, true, false, cond}
 use mathlib.Core.List.{List, [], ◌∷◌}
@@ -13,12 +14,8 @@ use Rattle.name.specs.Full.{is_short}
 use Rattle.row.specs.Kinds.{kind_number}
 use Rattle.row.specs.declared.kind.Kind.{Kind}
 use Rattle.row.specs.declared.kind.Kind.TheVariants.{Reference, Array, Map, Union, Record, Enum, Fixed}
-use Rattle.view.specs.declared.space.Spot.{Spot}
-use Rattle.view.specs.declared.space.Spot.TheVariants.{At, Nowhere}
 use Rattle.view.specs.declared.shape.Shape.{Shape}
 use Rattle.view.specs.declared.shape.Shape.TheVariants as shape
-use Rattle.view.specs.declared.sizes.Size.{Size}
-use Rattle.view.specs.declared.sizes.Size.TheVariants.{Value, NoSize}
 use Rattle.view.specs.declared.members.Members.{Members}
 use Rattle.view.specs.Values.{shape_at}
 use Rattle.view.specs.Elements.{elements}
@@ -66,7 +63,7 @@ module _ (t : List ℕ) where
   object_fair w p q o = go (same w (ascii "record")) (same w (ascii "enum")) (same w (ascii "fixed")) (same w (ascii "array")) (same w (ascii "map"))
     where
       go : (a b c d e : Bool)
-          → FairForm (cond a (form.RecordOf p) (cond b (form.EnumOf p) (cond c (form.FixedOf p) (cond d (form.ArrayOf p) (cond e (form.MapOf p) (form.Word q (At p)))))))
+          → FairForm (cond a (form.RecordOf p) (cond b (form.EnumOf p) (cond c (form.FixedOf p) (cond d (form.ArrayOf p) (cond e (form.MapOf p) (form.Word q (Some p)))))))
       go true b c d e = tt
       go false true c d e = tt
       go false false true d e = tt
@@ -87,9 +84,9 @@ module _ (t : List ℕ) where
       pick q true i = object_fair (string_at t q) p q (text_quoted t q i)
       pick q false i = h q
 
-      go : (s : Spot) → FairForm (on_spot s (λ q. cond (is_text (shape_at t q)) (object_form (string_at t q) p q) (f q)) (form.Wrong (fault TypeMissing p)))
-      go (At q) = pick q (is_text (shape_at t q)) refl
-      go Nowhere = other t TypeMissing p refl
+      go : (s : Option ℕ) → FairForm (on_spot s (λ q. cond (is_text (shape_at t q)) (object_form (string_at t q) p q) (f q)) (form.Wrong (fault TypeMissing p)))
+      go (Some q) = pick q (is_text (shape_at t q)) refl
+      go None = other t TypeMissing p refl
 
   pub form_fair : (n p : ℕ) → FairForm (form_within n t p)
   unfolding form_within
@@ -106,7 +103,7 @@ module _ (t : List ℕ) where
 
   -- ---- words
 
-  word_fair : (a : Around) (d : ℕ) (k : Kind) (q : ℕ) (o : Spot) → Quoted t q → FairOut t (word_rows t a d k q o)
+  word_fair : (a : Around) (d : ℕ) (k : Kind) (q : ℕ) (o : Option ℕ) → Quoted t q → FairOut t (word_rows t a d k q o)
   unfolding word_rows reference_rows primitive_rows
   word_fair a d k q o i =
       cond_fair t (eqb (kind_number k) (kind_number Reference)) (reference_rows t a d q) (primitive_rows t a d k q o)
@@ -145,10 +142,10 @@ module _ (t : List ℕ) where
   field_alias_row d q o = after_fair t (simple_check t q) _ (simple_fair t q o) tt
 
   -- 48
-  kept_fair : (s : Spot) → FairCheck t (kept_check t s)
+  kept_fair : (s : Option ℕ) → FairCheck t (kept_check t s)
   unfolding kept_check
-  kept_fair (At v) = must_other t (is_short (written_at t v)) DefaultTooLong v refl
-  kept_fair Nowhere = tt
+  kept_fair (Some v) = must_other t (is_short (written_at t v)) DefaultTooLong v refl
+  kept_fair None = tt
 
   field_fair : (schema : ℕ → ℕ → Out) → ((d q : ℕ) → FairOut t (schema d q)) → (d f : ℕ) → FairOut t (field_rows schema t d f)
   unfolding field_rows
@@ -190,13 +187,13 @@ module _ (t : List ℕ) where
   unfolding fixed_rows
   fixed_fair a d p m = spot_fair t m.size _ (no SizeMissing p) (λ v _. go v (size_of t v)) (other t SizeMissing p refl)
     where
-      go : (v : ℕ) (s : Size) → FairOut t (on_size s (λ size. definition t a Fixed d p m size (note_of t m (over.Fixed size)) (λ own. read [])) (no NotASize v))
-      go v (Value size) = defined_fair a Fixed d p m size (note_of t m (over.Fixed size)) (λ own. read []) (λ own. tt)
-      go v NoSize = other t NotASize v refl
+      go : (v : ℕ) (s : Option ℕ) → FairOut t (on_size s (λ size. definition t a Fixed d p m size (note_of t m (over.Fixed size)) (λ own. read [])) (no NotASize v))
+      go v (Some size) = defined_fair a Fixed d p m size (note_of t m (over.Fixed size)) (λ own. read []) (λ own. tt)
+      go v None = other t NotASize v refl
 
   -- ---- any schema, by a reader of the schemas in it
   module _ (schema : Around → ℕ → ℕ → Out) (h : (a : Around) (d q : ℕ) → FairOut t (schema a d q)) where
-    part_fair : (a : Around) (k : Kind) (d p : ℕ) (part : Spot) (missing : Out) → FairOut t missing → FairOut t (part_rows schema t a k d p part missing)
+    part_fair : (a : Around) (k : Kind) (d p : ℕ) (part : Option ℕ) (missing : Out) → FairOut t missing → FairOut t (part_rows schema t a k d p part missing)
     unfolding part_rows
     part_fair a k d p part missing g =
         new_kind_lem a k _

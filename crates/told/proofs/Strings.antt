@@ -1,5 +1,6 @@
 -- The strings of a declaration that have to be names, and the checks of them.
 -- Assumes nothing.
+use Rattle.std.specs.Prelude.{Option, Some, None, Ok, Err}
 use mathlib.Core.Path.{◌≡◌, refl, subst}
 use mathlib.Core.Bool.{Bool, true, false, not, cond, ◌&&◌, ◌||◌, and-eq-true_iff}
 use mathlib.Core.List.{List, [], ◌∷◌, ◌++◌, map}
@@ -13,17 +14,13 @@ use Rattle.ground.proofs.Laws.{never}
 use Rattle.json_scan.specs.Json.{is_digit}
 use Rattle.name.specs.Name.{is_name, is_namespace, is_simple, is_reserved, is_one_of, has_dot}
 use Rattle.name.specs.Full.{is_short}
-use Rattle.view.specs.declared.space.Spot.{Spot}
-use Rattle.view.specs.declared.space.Spot.TheVariants.{At, Nowhere}
 use Rattle.view.specs.declared.shape.Shape.TheVariants.{Text, Number, Object, Array, Word, Nothing}
 use Rattle.view.specs.declared.members.Members.{Members}
 use Rattle.view.specs.Values.{shape_of, shape_at}
 use Rattle.view.specs.Elements.{elements}
 use Rattle.view.specs.Strings.{string_at}
 use Rattle.view.proofs.Laws.{All}
-use Rattle.form.specs.declared.check.Check.{Check}
-use Rattle.form.specs.declared.check.Check.TheVariants.{Fine, Bad}
-use Rattle.form.specs.Checks.{fault, must, ◌then◌, each_of}
+use Rattle.form.specs.Checks.{fault, must, ◌then◌, each_of, Check}
 use Rattle.form.specs.Spots.{on_spot, is_text, as_text, as_array, all_texts, aliases_in}
 use Rattle.form.specs.Names.{not_a_name, kept, unreserved, simple_check, full_at, reference_check, alias_check, namespace_check, defined_at, definition_check}
 use Rattle.form.proofs.Laws.{must_fine, then_fine}
@@ -56,12 +53,12 @@ module _ (t : List ℕ) where
   pub text_quoted : (q : ℕ) → is_text (shape_at t q) ≡ true → Quoted q
   text_quoted q e = text_byte (byte_at t q) e
 
-  pub as_text_lem : (s : Spot) (q : ℕ) → as_text t s ≡ At q → Quoted q
+  pub as_text_lem : (s : Option ℕ) (q : ℕ) → as_text t s ≡ Some q → Quoted q
   unfolding as_text
-  as_text_lem Nowhere q e = let z : ◌≡◌ {A = ℕ} 0 1 = cc in absurd (omega arith)
-  as_text_lem (At p) q e = go (is_text (shape_at t p)) refl e
+  as_text_lem None q e = let z : ◌≡◌ {A = ℕ} 0 1 = cc in absurd (omega arith)
+  as_text_lem (Some p) q e = go (is_text (shape_at t p)) refl e
     where
-      go : (b : Bool) → is_text (shape_at t p) ≡ b → cond b (At p) Nowhere ≡ At q → Quoted q
+      go : (b : Bool) → is_text (shape_at t p) ≡ b → cond b (Some p) None ≡ Some q → Quoted q
       go true h e = let z : p ≡ q = cc in subst Quoted z (text_quoted p h)
       go false h e = let z : ◌≡◌ {A = ℕ} 0 1 = cc in absurd (omega arith)
 
@@ -72,7 +69,7 @@ module _ (t : List ℕ) where
       let z = (and-eq-true_iff (is_text (shape_at t q)) (all_texts t qs)).0 e in
       (text_quoted q z.0, texts_quoted qs z.1)
 
-  pub aliases_quoted : (s : Spot) → All Quoted (aliases_in t s)
+  pub aliases_quoted : (s : Option ℕ) → All Quoted (aliases_in t s)
   unfolding aliases_in
   aliases_quoted s = go (as_array t s)
     where
@@ -80,9 +77,9 @@ module _ (t : List ℕ) where
       pick p true e = texts_quoted (elements t p) e
       pick p false e = tt
 
-      go : (x : Spot) → All Quoted (on_spot x (λ p. cond (all_texts t (elements t p)) (elements t p) []) [])
-      go (At p) = pick p (all_texts t (elements t p)) refl
-      go Nowhere = tt
+      go : (x : Option ℕ) → All Quoted (on_spot x (λ p. cond (all_texts t (elements t p)) (elements t p) []) [])
+      go (Some p) = pick p (all_texts t (elements t p)) refl
+      go None = tt
 
   -- ---- names
 
@@ -114,11 +111,11 @@ module _ (t : List ℕ) where
     unfolding namespace_check
     space_fair m = go (has_dot (string_at t q)) (as_text t m.namespace) (as_text_lem m.namespace)
       where
-        go : (b : Bool) (s : Spot) → ((w : ℕ) → s ≡ At w → Quoted w)
-            → FairCheck t (cond b Fine (on_spot s (λ w. must (is_namespace (string_at t w)) (not_a_name is_namespace t w)) Fine))
+        go : (b : Bool) (s : Option ℕ) → ((w : ℕ) → s ≡ Some w → Quoted w)
+            → FairCheck t (cond b (Ok tt) (on_spot s (λ w. must (is_namespace (string_at t w)) (not_a_name is_namespace t w)) (Ok tt)))
         go true s h = tt
-        go false (At w) h = rule_fair t namespace w (h w refl)
-        go false Nowhere h = tt
+        go false (Some w) h = rule_fair t namespace w (h w refl)
+        go false None h = tt
 
     pub definition_fair : (n : List ℕ) (m : Members) → FairCheck t (definition_check t n m q)
     unfolding definition_check
@@ -149,7 +146,7 @@ module _ (t : List ℕ) where
       then_fair t (must (is_text (shape_at t q)) (fault SymbolNotAString q)) (texts qs)
       (must_other t (is_text (shape_at t q)) SymbolNotAString q refl) (λ _. texts_fair qs)
 
-  texts_fine : (qs : List ℕ) → texts qs ≡ Fine → All Quoted qs
+  texts_fine : (qs : List ℕ) → texts qs ≡ Ok tt → All Quoted qs
   unfolding each_of
   texts_fine [] e = tt
   texts_fine (q ∷ qs) e =
@@ -161,12 +158,12 @@ module _ (t : List ℕ) where
   symbols_fair qs =
       then_fair t (texts qs) (symbols_new t [] qs) (texts_fair qs) (λ e. new_fair [] qs (texts_fine qs e))
 
-  pub default_fair : (s : Spot) (qs : List ℕ) → FairCheck t (default_check t s qs)
+  pub default_fair : (s : Option ℕ) (qs : List ℕ) → FairCheck t (default_check t s qs)
   unfolding default_check
-  default_fair Nowhere qs = tt
-  default_fair (At v) qs = go (is_text (shape_at t v))
+  default_fair None qs = tt
+  default_fair (Some v) qs = go (is_text (shape_at t v))
     where
-      go : (b : Bool) → FairCheck t (cond b (must (is_one_of (map (string_at t) qs) (string_at t v)) (fault DefaultNotASymbol v)) (Bad (fault DefaultNotAString v)))
+      go : (b : Bool) → FairCheck t (cond b (must (is_one_of (map (string_at t) qs) (string_at t v)) (fault DefaultNotASymbol v)) (Err (fault DefaultNotAString v)))
       go true = must_other t (is_one_of (map (string_at t) qs) (string_at t v)) DefaultNotASymbol v refl
       go false = other t DefaultNotAString v refl
 

@@ -1,4 +1,5 @@
 -- The values of an array and the members of an object, by the views. Assumes nothing.
+use Rattle.std.specs.Prelude.{Option, Some, None}
 use mathlib.Core.Path.{◌≡◌, refl, sym, ap, ap₂, ◌∙◌}
 use mathlib.Core.Bool.{true, false, cond}
 use mathlib.Core.List.{List, [], ◌∷◌, ◌++◌, map, append_assoc}
@@ -14,8 +15,6 @@ use Rattle.view.specs.Elements.{value_from, next_element, elements_at}
 use Rattle.view.specs.Strings.{string_at}
 use Rattle.view.specs.Members.{value_of, is_member, key_from, key_behind, key_after, keys_at}
 use Rattle.view.specs.Members.{member_of as member-at}
-use Rattle.view.specs.declared.space.Spot.{Spot}
-use Rattle.view.specs.declared.space.Spot.TheVariants.{At, Nowhere}
 use Rattle.view.proofs.Laws.{elements_next, elements_done, keys_next, keys_done}
 use Rattle.viewed.proofs.Values.{byte_here}
 use Rattle.grammar.specs.Grammar.{Byte, bytes, ◌·◌, join, Optional, absent, present, Many, none, more, ws, value_separator, name_separator, string, member, value}
@@ -70,21 +69,21 @@ module _ (t : List ℕ) (n : ℕ) where
 
   -- ---- values
   -- behind a value: a comma at e, and the next one
-  unfoldable comma_at : ℕ → Spot
-  comma_at e = cond (eqb (byte_at t e) 44) (value_from t (e + 1)) Nowhere
+  unfoldable comma_at : ℕ → Option ℕ
+  comma_at e = cond (eqb (byte_at t e) 44) (value_from t (e + 1)) None
 
   next_comma : (q : ℕ) → next_element t q ≡ comma_at (skip_of t (end_of t q))
   unfolding next_element comma_at
   next_comma q = refl
 
-  unfoldable shown_from : Spot → Trees
+  unfoldable shown_from : Option ℕ → Trees
   shown_from s = shown_all t (shown t (suc n)) (elements_at t s)
 
-  from_none : no_tree ≡ shown_from Nowhere
+  from_none : no_tree ≡ shown_from None
   unfolding shown_from shown_all
   from_none = ap (shown_all t (shown t (suc n))) (sym (elements_done t))
 
-  from_one : (q : ℕ) → tree (shown t (suc n) q) (shown_from (next_element t q)) ≡ shown_from (At q)
+  from_one : (q : ℕ) → tree (shown t (suc n) q) (shown_from (next_element t q)) ≡ shown_from (Some q)
   unfolding shown_from shown_all
   from_one q = ap (shown_all t (shown t (suc n))) (sym (elements_next t q))
 
@@ -133,21 +132,21 @@ module _ (t : List ℕ) (n : ℕ) where
 
   -- ---- members
   -- behind a value: a comma at e, and the next key
-  unfoldable comma_key : ℕ → Spot
-  comma_key e = cond (eqb (byte_at t e) 44) (key_from t (e + 1)) Nowhere
+  unfoldable comma_key : ℕ → Option ℕ
+  comma_key e = cond (eqb (byte_at t e) 44) (key_from t (e + 1)) None
 
   next_key : (v : ℕ) → key_behind t v ≡ comma_key (skip_of t (end_of t v))
   unfolding key_behind comma_key
   next_key v = refl
 
-  unfoldable shown_keys : Spot → Members
+  unfoldable shown_keys : Option ℕ → Members
   shown_keys s = shown_members t (shown t (suc n)) (map (member-at t) (keys_at t s))
 
-  keys_none : no_member ≡ shown_keys Nowhere
+  keys_none : no_member ≡ shown_keys None
   unfolding shown_keys shown_members
   keys_none = ap (λ (l : List ℕ). shown_members t (shown t (suc n)) (map (member-at t) l)) (sym (keys_done t))
 
-  keys_one : (k : ℕ) → under (text_at t k) (shown t (suc n) (value_of t k)) (shown_keys (key_after t k)) ≡ shown_keys (At k)
+  keys_one : (k : ℕ) → under (text_at t k) (shown t (suc n) (value_of t k)) (shown_keys (key_after t k)) ≡ shown_keys (Some k)
   unfolding shown_keys shown_members
   keys_one k = ap (λ (l : List ℕ). shown_members t (shown t (suc n)) (map (member-at t) l)) (sym (keys_next t k))
 

@@ -1,4 +1,5 @@
 -- Words and numbers: where they end, and sizes. Assumes nothing.
+use Rattle.std.specs.Prelude.{None}
 use mathlib.Core.Path.{◌≡◌, refl, sym, ap, ◌∙◌}
 use mathlib.Core.Bool.{Bool, true, false, cond, not}
 use mathlib.Core.List.{List, [], ◌∷◌, ◌++◌, append_assoc, append-nil}
@@ -14,7 +15,6 @@ use Rattle.view.specs.Values.{count, shape_of}
 use Rattle.view.specs.declared.shape.Shape.TheVariants.{Number}
 use Rattle.view.specs.Ends.{is_token, is_delimiter, is_block, literal_end, end_of}
 use Rattle.view.specs.Size.{fitting, size_from, size_of}
-use Rattle.view.specs.declared.sizes.Size.TheVariants.{NoSize}
 use Rattle.viewed.proofs.Values.{byte_here}
 use Rattle.grammar.specs.Grammar.{bytes, Byte, Range, within, ◌·◌, join, ◌or◌, this, that, Optional, absent, present, Many, none, more, DIGIT, int, number}
 use Rattle.tree.specs.Tree.{decimal, size_in}
@@ -171,12 +171,12 @@ size_stops v (b ∷ u) n = go (is_delimiter b) refl n (is_digit b) refl
         never (sym f ∙ d)
 
     go : (x : Bool) → is_delimiter b ≡ x → cond (not x) (suc (count is_token u)) 0 ≡ 0 → (y : Bool) → is_digit b ≡ y
-        → cond y (size_from (v * 10 + (b - 48)) u) (cond (is_delimiter b) (fitting v) NoSize) ≡ fitting v
+        → cond y (size_from (v * 10 + (b - 48)) u) (cond (is_delimiter b) (fitting v) None) ≡ fitting v
     go true d z true g = absurd (no_digit d g)
     go true d z false g = rw d
     go false d z y g = absurd (omega arith)
 
-size_other : (v b : ℕ) (u : List ℕ) → is_digit b ≡ false → is_delimiter b ≡ false → size_from v (b ∷ u) ≡ NoSize
+size_other : (v b : ℕ) (u : List ℕ) → is_digit b ≡ false → is_delimiter b ≡ false → size_from v (b ∷ u) ≡ None
 unfolding size_from
 size_other v b u n d = rw (n, d)
 

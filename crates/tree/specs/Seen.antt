@@ -6,7 +6,8 @@ use Rattle.view.specs.Values.{shape_at}
 use Rattle.view.specs.Ends.{end_of}
 use Rattle.view.specs.Elements.{elements}
 use Rattle.view.specs.Strings.{string_at}
-use Rattle.view.specs.Members.{Member, members_at}
+use Rattle.view.specs.Members.{members_at}
+use Rattle.view.specs.declared.members.Member.{Member}
 use Rattle.view.specs.Size.{size_of}
 use Rattle.view.specs.declared.shape.Shape.{Shape}
 use Rattle.view.specs.declared.shape.Shape.TheVariants.{Text, Number, Object, Array, Word, Nothing}

@@ -1,9 +1,7 @@
 -- What a JSON text says: a tree of values, each with the place where it stands, read off the text's derivation by the grammar, rule by rule.
 -- Assumes nothing: these are definitions.
-use Rattle.std.specs.Prelude.{ℕ, zero, suc, ◌+◌, ◌-◌, ◌*◌, cond, List, [], ◌∷◌, ltb, length}
+use Rattle.std.specs.Prelude.{ℕ, zero, suc, ◌+◌, ◌-◌, ◌*◌, cond, List, [], ◌∷◌, ltb, length, Option, Some, None}
 use Rattle.grammar.specs.Grammar.{Rule, ◌·◌, join, this, that, Optional, absent, present, Many, none, more, value_separator, number, string, member, object, array, value, JSON_text}
-use Rattle.view.specs.declared.sizes.Size.{Size}
-use Rattle.view.specs.declared.sizes.Size.TheVariants.{Value, NoSize}
 use Rattle.tree.specs.Characters.{string_of, UTF8_octets}
 
 -- a value: the place of its first byte, the place behind its last, and what it says. A word or a number says its bytes, and a number that is a size its size;
@@ -11,7 +9,7 @@ use Rattle.tree.specs.Characters.{string_of, UTF8_octets}
 mutual
   pub data Tree : Type 0 where
     a_word : ℕ → ℕ → List ℕ → Tree
-    a_number : ℕ → ℕ → List ℕ → Size → Tree
+    a_number : ℕ → ℕ → List ℕ → Option ℕ → Tree
     a_text : ℕ → ℕ → List ℕ → Tree
     an_array : ℕ → ℕ → Trees → Tree
     an_object : ℕ → ℕ → Members → Tree
@@ -37,11 +35,11 @@ decimal v [] = v
 decimal v (b ∷ bs) = decimal (v * 10 + (b - 0x30)) bs
 
 -- a size: digits alone, and what they write is below 2^64
-unfoldable pub size_in : {s : List ℕ} → number s → Size
-size_in (join (present minus) d) = NoSize
-size_in (join absent (join int (join (present frac) d))) = NoSize
-size_in (join absent (join int (join absent (present exp)))) = NoSize
-size_in (join absent (join {s = s} int (join absent absent))) = cond (ltb (decimal 0 s) 0x10000000000000000) (Value (decimal 0 s)) NoSize
+unfoldable pub size_in : {s : List ℕ} → number s → Option ℕ
+size_in (join (present minus) d) = None
+size_in (join absent (join int (join (present frac) d))) = None
+size_in (join absent (join int (join absent (present exp)))) = None
+size_in (join absent (join {s = s} int (join absent absent))) = cond (ltb (decimal 0 s) 0x10000000000000000) (Some (decimal 0 s)) None
 
 unfoldable pub number_of : (s : List ℕ) → ℕ → number s → Tree
 number_of s p d = a_number p (p + length s) s (size_in d)

@@ -1,5 +1,6 @@
 -- What a value is by its first byte, whole numbers, and the characters of a string, as the code's tests have them.
 -- Assumes nothing.
+use Rattle.std.specs.Prelude.{Option, Some, None}
 use mathlib.Core.Path.{◌≡◌, refl, sym, ap, ◌∙◌}
 use mathlib.Core.Bool.{Bool, true, false, cond}
 use mathlib.Core.List.{List, [], ◌∷◌}
@@ -11,11 +12,7 @@ use borrow.Author.Tests.{eq-eqb, ne_eqb, lt-ltb, le-ltb, le-leb, lt-leb}
 use Rattle.ground.specs.Bytes.{byte_at}
 use Rattle.view.specs.Size.{size_of}
 use Rattle.view.specs.Strings.{string_at, left_of, Reads}
-use Rattle.view.specs.declared.sizes.Size.{Size}
-use Rattle.view.specs.declared.sizes.Size.TheVariants.{Value, NoSize}
 use Rattle.view.specs.declared.strings.Cursor.{Cursor}
-use Rattle.view.specs.declared.strings.Step.{Step}
-use Rattle.view.specs.declared.strings.Step.TheVariants.{Byte, End}
 use Rattle.view.proofs.Laws.{string_short, read_end, read_byte}
 use Rattle.values.specs.Steps.{narrow_size}
 use Rattle.values.specs.Values.{is_boolean, is_number, is_string, up_to, is_whole, goes_on, characters, is_narrow, is_bytes, is_fixed}
@@ -46,7 +43,7 @@ module _ (t : List ℕ) (p : ℕ) {b : ℕ} (e : b ≡ byte_at t p) where
 
   -- ---- whole numbers
 
-  module _ (half : ℕ) {s : Size} {x : Bool} where
+  module _ (half : ℕ) {s : Option ℕ} {x : Bool} where
     pub whole_minus : b ≡ 45 → s ≡ size_of t (p + 1) → x ≡ up_to half s → x ≡ is_whole half t p
     unfolding is_whole
     whole_minus f g h = rw (← e, eq-eqb b 45 f, ← g) h
@@ -55,11 +52,11 @@ module _ (t : List ℕ) (p : ℕ) {b : ℕ} (e : b ≡ byte_at t p) where
     unfolding is_whole
     whole_digits f g h = rw (← e, ne_eqb b 45 f, ← g) h
 
-pub up_to_value : (n v : ℕ) {s : Size} → s ≡ Value v → leb v n ≡ up_to n s
+pub up_to_value : (n v : ℕ) {s : Option ℕ} → s ≡ Some v → leb v n ≡ up_to n s
 unfolding up_to
 up_to_value n v e = rw e
 
-pub up_to_none : (n : ℕ) {s : Size} → s ≡ NoSize → false ≡ up_to n s
+pub up_to_none : (n : ℕ) {s : Option ℕ} → s ≡ None → false ≡ up_to n s
 unfolding up_to
 up_to_none n e = rw e
 
@@ -83,18 +80,18 @@ characters_few (b ∷ s) = go (characters_few s) (goes_on b)
     go h false = omega arith
 
 -- what is left of the string after a step
-module _ {t left : List ℕ} {s : Step} (r : Reads t left s) where
+module _ {t left : List ℕ} {s : Option (ℕ × Cursor)} (r : Reads t left s) where
   -- no byte
-  pub narrow_end : s ≡ End → {x : Bool} → is_narrow left ≡ x → true ≡ x
+  pub narrow_end : s ≡ None → {x : Bool} → is_narrow left ≡ x → true ≡ x
   unfolding is_narrow
   narrow_end e inv = sym (ap is_narrow (read_end r e)) ∙ inv
 
-  pub characters_end : s ≡ End → (n : ℕ) {x : ℕ} → n + characters left ≡ x → n ≡ x
+  pub characters_end : s ≡ None → (n : ℕ) {x : ℕ} → n + characters left ≡ x → n ≡ x
   unfolding characters
   characters_end e n inv = let z = ap characters (read_end r e) in omega arith
 
   -- a byte
-  module _ {b : ℕ} {c : Cursor} (e : s ≡ Byte b c) where
+  module _ {b : ℕ} {c : Cursor} (e : s ≡ Some (b, c)) where
     pub left_less : length (left_of t c) < length left
     left_less = let z = ap length (read_byte r e) in omega arith
 
@@ -121,28 +118,28 @@ characters_bound t p = let a = characters_few (string_at t p) in let b = string_
 
 -- ---- strings for bytes
 
-pub narrow_all : (s : List ℕ) (n : ℕ) → true ≡ is_narrow s → n ≡ characters s → Value n ≡ narrow_size s
+pub narrow_all : (s : List ℕ) (n : ℕ) → true ≡ is_narrow s → n ≡ characters s → Some n ≡ narrow_size s
 unfolding narrow_size
 narrow_all s n e f = rw (← e, f)
 
-pub narrow_not : (s : List ℕ) → false ≡ is_narrow s → NoSize ≡ narrow_size s
+pub narrow_not : (s : List ℕ) → false ≡ is_narrow s → None ≡ narrow_size s
 unfolding narrow_size
 narrow_not s e = rw (← e)
 
 -- what the size tells of the string
-is_narrow_lem : (s : List ℕ) (n : ℕ) → Value n ≡ narrow_size s → (is_narrow s ≡ true) × (n ≡ characters s)
+is_narrow_lem : (s : List ℕ) (n : ℕ) → Some n ≡ narrow_size s → (is_narrow s ≡ true) × (n ≡ characters s)
 unfolding narrow_size
 is_narrow_lem s n e = go (is_narrow s) e
   where
-    go : (b : Bool) → Value n ≡ cond b (Value (characters s)) NoSize → (b ≡ true) × (n ≡ characters s)
+    go : (b : Bool) → Some n ≡ cond b (Some (characters s)) None → (b ≡ true) × (n ≡ characters s)
     go true e = (refl, cc)
     go false e = let z : ◌≡◌ {A = ℕ} 0 1 = cc in absurd (omega arith)
 
-is_wide : (s : List ℕ) → NoSize ≡ narrow_size s → is_narrow s ≡ false
+is_wide : (s : List ℕ) → None ≡ narrow_size s → is_narrow s ≡ false
 unfolding narrow_size
 is_wide s e = go (is_narrow s) e
   where
-    go : (b : Bool) → NoSize ≡ cond b (Value (characters s)) NoSize → b ≡ false
+    go : (b : Bool) → None ≡ cond b (Some (characters s)) None → b ≡ false
     go true e = cc
     go false e = refl
 
@@ -155,19 +152,19 @@ module _ (t : List ℕ) (p : ℕ) {a : Bool} (e : a ≡ is_string t p) where
   unfolding is_fixed
   fixed_none f size = rw (← bytes_none f)
 
-  module _ (f : a ≡ true) {s : Size} (h : s ≡ narrow_size (string_at t p)) where
-    pub bytes_narrow : {n : ℕ} → s ≡ Value n → true ≡ is_bytes t p
+  module _ (f : a ≡ true) {s : Option ℕ} (h : s ≡ narrow_size (string_at t p)) where
+    pub bytes_narrow : {n : ℕ} → s ≡ Some n → true ≡ is_bytes t p
     unfolding is_bytes
     bytes_narrow {n} g = rw (← e, f, (is_narrow_lem (string_at t p) n (sym g ∙ h)).0)
 
-    pub bytes_wide : s ≡ NoSize → false ≡ is_bytes t p
+    pub bytes_wide : s ≡ None → false ≡ is_bytes t p
     unfolding is_bytes
     bytes_wide g = rw (← e, f, is_wide (string_at t p) (sym g ∙ h))
 
-    pub fixed_narrow : {n : ℕ} → s ≡ Value n → (size : ℕ) → eqb n size ≡ is_fixed size t p
+    pub fixed_narrow : {n : ℕ} → s ≡ Some n → (size : ℕ) → eqb n size ≡ is_fixed size t p
     unfolding is_fixed
     fixed_narrow {n} g size = rw (← bytes_narrow g, (is_narrow_lem (string_at t p) n (sym g ∙ h)).1)
 
-    pub fixed_wide : s ≡ NoSize → (size : ℕ) → false ≡ is_fixed size t p
+    pub fixed_wide : s ≡ None → (size : ℕ) → false ≡ is_fixed size t p
     unfolding is_fixed
     fixed_wide g size = rw (← bytes_wide g)

@@ -1,12 +1,10 @@
 -- What the value at a place of a text is. The text was scanned, so a value's first byte tells.
 -- Assumes nothing.
-use Rattle.std.specs.Prelude.{ℕ, suc, ◌+◌, ◌-◌, Bool, true, false, cond, ◌&&◌, ◌||◌, List, [], ◌∷◌, eqb, leb, ltb}
+use Rattle.std.specs.Prelude.{ℕ, suc, ◌+◌, ◌-◌, Bool, true, false, cond, ◌&&◌, ◌||◌, List, [], ◌∷◌, eqb, leb, ltb, Option, Some, None}
 use Rattle.ground.specs.Bytes.{byte_at}
 use Rattle.json_scan.specs.Json.{is_digit}
 use Rattle.view.specs.Size.{size_of}
 use Rattle.view.specs.Strings.{string_at}
-use Rattle.view.specs.declared.sizes.Size.{Size}
-use Rattle.view.specs.declared.sizes.Size.TheVariants.{Value, NoSize}
 
 -- ---- by the first byte
 
@@ -37,9 +35,9 @@ is_object t p = eqb (byte_at t p) 123
 -- ---- whole numbers
 
 -- a number of digits alone that is at most n
-unfoldable pub up_to : ℕ → Size → Bool
-up_to n (Value v) = leb v n
-up_to n NoSize = false
+unfoldable pub up_to : ℕ → Option ℕ → Bool
+up_to n (Some v) = leb v n
+up_to n None = false
 
 -- a whole number from -half up to half - 1: digits alone, as many as there may be, or a minus sign and digits alone; -0 is one
 unfoldable pub is_whole : ℕ → List ℕ → ℕ → Bool

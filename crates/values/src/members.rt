@@ -1,28 +1,27 @@
 // The value under a key of an object: of several the last counts.
-ghost use Rattle.std.specs.Prelude.{◌≡◌, cond};
+ghost use Rattle.std.specs.Prelude.{◌≡◌, cond, Some};
 ghost use Rattle.view.specs.Known.{Known};
 ghost use Rattle.view.specs.Strings.{string_at};
 ghost use Rattle.view.specs.Members.{member};
-ghost use Rattle.view.specs.declared.space.Spot.TheVariants.{At};
 
-use view::{Entry, Spot, first_member, next_member, string_is, strings_same};
+use view::{Entry, first_member, next_member, string_is, strings_same};
 
 // The value, where the key is the one looked for; else what was found before.
-fn found_if(is: bool, value: usize, found: Spot) -> Spot
-    ensures { result ≡ cond is (At value) found }
+fn found_if(is: bool, value: usize, found: Option<usize>) -> Option<usize>
+    ensures { result ≡ cond is (Some value) found }
 {
     if is {
-        return Spot::At(value);
+        return Some(value);
     }
     found
 }
 
 // The value under the word in the object at `at`.
-pub fn under_word(text: &[u8], ends: &[u16], at: usize, word: &[u8]) -> Spot
+pub fn under_word(text: &[u8], ends: &[u16], at: usize, word: &[u8]) -> Option<usize>
     requires { Known text.now ends.now }
     ensures { result ≡ member text.now at word.now }
 {
-    let mut found = Spot::Nowhere;
+    let mut found = None;
     let mut entry = first_member(text, ends, at);
     loop {
         let Entry::Of(key, value) = entry else {
@@ -35,11 +34,11 @@ pub fn under_word(text: &[u8], ends: &[u16], at: usize, word: &[u8]) -> Spot
 }
 
 // The value under the key that stands at a place, in the object at `at`.
-pub fn under_key(text: &[u8], ends: &[u16], at: usize, place: usize) -> Spot
+pub fn under_key(text: &[u8], ends: &[u16], at: usize, place: usize) -> Option<usize>
     requires { Known text.now ends.now }
     ensures { result ≡ member text.now at (string_at text.now place) }
 {
-    let mut found = Spot::Nowhere;
+    let mut found = None;
     let mut entry = first_member(text, ends, at);
     loop {
         let Entry::Of(key, value) = entry else {

@@ -5,7 +5,7 @@ ghost use Rattle.values.specs.Values.{is_null, is_boolean, is_number, is_string,
 ghost use Rattle.values.specs.Steps.{narrow_size};
 
 use ground::byte_at;
-use view::{Size, Step, next_byte, opening, size_literal};
+use view::{Step, next_byte, opening, size_literal};
 
 pub fn is_null(text: &[u8], at: usize) -> bool
     ensures { result ≡ is_null text.now at }
@@ -51,12 +51,12 @@ pub fn is_object(text: &[u8], at: usize) -> bool
     byte_at(text, at) == b'{'
 }
 
-fn up_to(most: u64, size: Size) -> bool
+fn up_to(most: u64, size: Option<u64>) -> bool
     ensures { result ≡ up_to most size }
 {
     match size {
-        Size::Value(v) => v <= most,
-        Size::NoSize => false,
+        Some(v) => v <= most,
+        None => false,
     }
 }
 
@@ -78,17 +78,17 @@ fn goes_on(b: u8) -> bool
 }
 
 // How many characters the string at `at` has, if each is one up to U+00FF.
-fn narrow_size(text: &[u8], at: usize) -> Size
+fn narrow_size(text: &[u8], at: usize) -> Option<u64>
     ensures { result ≡ narrow_size (string_at text.now at) }
 {
     let mut c = opening(text, at);
     let mut n: u64 = 0;
     loop {
         let Step::Byte(b, next) = next_byte(text, c) else {
-            return Size::Value(n);
+            return Some(n);
         };
         if 0xc4 <= b {
-            return Size::NoSize;
+            return None;
         }
         c = next;
         if goes_on(b) {
@@ -103,8 +103,8 @@ pub fn is_bytes(text: &[u8], at: usize) -> bool
 {
     if is_string(text, at) {
         return match narrow_size(text, at) {
-            Size::Value(_) => true,
-            Size::NoSize => false,
+            Some(_) => true,
+            None => false,
         };
     }
     false
@@ -115,8 +115,8 @@ pub fn is_fixed(text: &[u8], at: usize, size: u64) -> bool
 {
     if is_string(text, at) {
         return match narrow_size(text, at) {
-            Size::Value(n) => n == size,
-            Size::NoSize => false,
+            Some(n) => n == size,
+            None => false,
         };
     }
     false

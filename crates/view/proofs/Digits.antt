@@ -1,5 +1,6 @@
 -- Laws of size literals.
 -- Assumes nothing.
+use Rattle.std.specs.Prelude.{Some, None}
 use mathlib.Core.Path.{◌≡◌, refl, ◌∙◌}
 use mathlib.Core.Bool.{Bool, true, false, cond}
 use mathlib.Core.List.{List, [], ◌∷◌}
@@ -13,7 +14,6 @@ use borrow.Author.Tests.{lt-ltb, le-ltb, lt-leb, le-leb}
 use Rattle.json_scan.specs.Json.{is_digit}
 use Rattle.ground.specs.Bytes.{byte_at}
 use Rattle.view.specs.Ends.{is_delimiter}
-use Rattle.view.specs.declared.sizes.Size.TheVariants.{Value, NoSize}
 use Rattle.view.specs.Size.{fitting, size_from, size_of}
 use Rattle.view.proofs.Places.{never}
 
@@ -25,18 +25,18 @@ digit_low w b h e = go (dec_lt b 48) (dec_lt 57 b)
     go (no n) (yes l) = never (rw (le-leb 48 b (omega arith), lt-leb b 57 l) at e)
     go (no n) (no m) = (omega arith, omega arith)
 
-too_big : (v : ℕ) (s : List ℕ) → 18446744073709551616 ≤ v → NoSize ≡ size_from v s
+too_big : (v : ℕ) (s : List ℕ) → 18446744073709551616 ≤ v → None ≡ size_from v s
 unfolding size_from fitting
 too_big v [] h = rw (le-ltb v 18446744073709551616 h)
 too_big v (b ∷ bs) h = go (too_big (v * 10 + (b - 48)) bs (omega arith)) (is_digit b) (is_delimiter b)
   where
-    go : NoSize ≡ size_from (v * 10 + (b - 48)) bs → (x y : Bool) → NoSize ≡ cond x (size_from (v * 10 + (b - 48)) bs) (cond y (fitting v) NoSize)
+    go : None ≡ size_from (v * 10 + (b - 48)) bs → (x y : Bool) → None ≡ cond x (size_from (v * 10 + (b - 48)) bs) (cond y (fitting v) None)
     go r true y = r
     go r false true = rw (le-ltb v 18446744073709551616 h)
     go r false false = refl
 
 module _ (t : List ℕ) (p v : ℕ) where
-  pub size_out : length t ≤ p → v < 18446744073709551616 → Value v ≡ size_from v (drop p t)
+  pub size_out : length t ≤ p → v < 18446744073709551616 → Some v ≡ size_from v (drop p t)
   unfolding size_from fitting
   size_out h l = rw (drop_of_length-le t h, lt-ltb v 18446744073709551616 l)
 
@@ -45,19 +45,19 @@ module _ (t : List ℕ) (p v : ℕ) where
     unfolding size_from
     size_digit f e = rw (drop-cons t p 0 h, e, add-one p, f)
 
-    pub size_big : {w : ℕ} → w ≡ get_or t p 0 → is_digit (get_or t p 0) ≡ true → 18446744073709551616 ≤ v * 10 + (w - 48) → NoSize ≡ size_from v (drop p t)
+    pub size_big : {w : ℕ} → w ≡ get_or t p 0 → is_digit (get_or t p 0) ≡ true → 18446744073709551616 ≤ v * 10 + (w - 48) → None ≡ size_from v (drop p t)
     size_big {w} f e l = too_big (v * 10 + (w - 48)) (drop (p + 1) t) l ∙ size_digit f e
 
-    pub size_stop : is_digit (get_or t p 0) ≡ false → is_delimiter (get_or t p 0) ≡ true → v < 18446744073709551616 → Value v ≡ size_from v (drop p t)
+    pub size_stop : is_digit (get_or t p 0) ≡ false → is_delimiter (get_or t p 0) ≡ true → v < 18446744073709551616 → Some v ≡ size_from v (drop p t)
     unfolding size_from fitting
     size_stop e f l = rw (drop-cons t p 0 h, e, f, lt-ltb v 18446744073709551616 l)
 
-    pub size_bad : is_digit (get_or t p 0) ≡ false → is_delimiter (get_or t p 0) ≡ false → NoSize ≡ size_from v (drop p t)
+    pub size_bad : is_digit (get_or t p 0) ≡ false → is_delimiter (get_or t p 0) ≡ false → None ≡ size_from v (drop p t)
     unfolding size_from
     size_bad e f = rw (drop-cons t p 0 h, e, f)
 
 module _ (t : List ℕ) (p b : ℕ) (e : b ≡ byte_at t p) where
-  pub size_none : is_digit b ≡ false → NoSize ≡ size_of t p
+  pub size_none : is_digit b ≡ false → None ≡ size_of t p
   unfolding size_of
   size_none f = rw (← e, f)
 

@@ -1,5 +1,6 @@
 -- Laws of the views, for whoever calls them. All hold of any text.
 -- Assumes nothing.
+use Rattle.std.specs.Prelude.{Option, Some, None}
 use mathlib.Core.Path.{◌≡◌, refl}
 use mathlib.Core.Bool.{Bool, true, false, cond}
 use mathlib.Core.List.{List, [], ◌∷◌, ◌++◌, map}
@@ -9,13 +10,12 @@ use lib.Dec.{eqb, ltb}
 use lib.ListN.{length}
 use borrow.Author.Tests.{ltb-true}
 use Rattle.ground.specs.Bytes.{byte_at, same}
-use Rattle.view.specs.declared.space.Spot.{Spot}
-use Rattle.view.specs.declared.space.Spot.TheVariants.{At, Nowhere}
 use Rattle.view.specs.Values.{starts_value}
 use Rattle.view.specs.Ends.{end_of}
 use Rattle.view.specs.Elements.{first_element, next_element, unroll, elements_at, elements}
 use Rattle.view.specs.Strings.{unit_at, utf8_of, short_of, part_of, part_at, is_stop, string_from, bytes_from, string_at}
-use Rattle.view.specs.Members.{value_of, is_member, first_key, key_after, keys_at, Member, member_of, members_at, last_under, member}
+use Rattle.view.specs.Members.{value_of, is_member, first_key, key_after, keys_at, member_of, members_at, last_under, member}
+use Rattle.view.specs.declared.members.Member.{Member}
 use Rattle.view.proofs.Visits.{first_ahead, next_ahead, first_key_ahead, next_key_ahead, member_value}
 use Rattle.view.proofs.Undone.{unit_small}
 pub use Rattle.view.proofs.Places.{in_text, value_in_text, skip_ahead, skip_within, end_ahead, end_within}
@@ -36,12 +36,12 @@ pub record Inside (t : List ℕ) (p q : ℕ) : Type 0 where
   pub within : q < length t
   pub value : starts_value (byte_at t q) ≡ true
 
-module _ (P : ℕ → Type 0) (next : ℕ → Spot) (on : (p q : ℕ) → P p → next p ≡ At q → P q) where
-  pub all_on : (n : ℕ) (s : Spot) → ((q : ℕ) → s ≡ At q → P q) → All P (unroll next n s)
+module _ (P : ℕ → Type 0) (next : ℕ → Option ℕ) (on : (p q : ℕ) → P p → next p ≡ Some q → P q) where
+  pub all_on : (n : ℕ) (s : Option ℕ) → ((q : ℕ) → s ≡ Some q → P q) → All P (unroll next n s)
   unfolding unroll
   all_on zero s h = tt
-  all_on (suc n) Nowhere h = tt
-  all_on (suc n) (At p) h = (h p refl, all_on n (next p) (λ q e. on p q (h p refl) e))
+  all_on (suc n) None h = tt
+  all_on (suc n) (Some p) h = (h p refl, all_on n (next p) (λ q e. on p q (h p refl) e))
 
 pub elements_inside : (t : List ℕ) (p : ℕ) → All (Inside t p) (elements t p)
 unfolding elements elements_at
@@ -49,7 +49,7 @@ elements_inside t p =
     all_on (Inside t p) (next_element t) go (suc (length t)) (first_element t p)
     (λ q e. let a = first_ahead t p q e in record { behind = a.0; within = a.1; value = a.2 })
   where
-    go : (x q : ℕ) → Inside t p x → next_element t x ≡ At q → Inside t p q
+    go : (x q : ℕ) → Inside t p x → next_element t x ≡ Some q → Inside t p q
     go x q i e =
         let a = next_ahead t x q e in
         let b = end_ahead t x in
@@ -61,14 +61,14 @@ abbrev pub Ascending : List ℕ → List ℕ → Type 0
 Ascending t [] = Unit {0}
 Ascending t (x ∷ xs) = All (λ y. end_of t x < y) xs × Ascending t xs
 
-ascend : (t : List ℕ) (n : ℕ) (s : Spot) → Ascending t (unroll (next_element t) n s)
+ascend : (t : List ℕ) (n : ℕ) (s : Option ℕ) → Ascending t (unroll (next_element t) n s)
 unfolding unroll
 ascend t zero s = tt
-ascend t (suc n) Nowhere = tt
-ascend t (suc n) (At p) =
+ascend t (suc n) None = tt
+ascend t (suc n) (Some p) =
     (all_on (λ q. end_of t p < q) (next_element t) go n (next_element t p) (λ q e. (next_ahead t p q e).0), ascend t n (next_element t p))
   where
-    go : (x q : ℕ) → end_of t p < x → next_element t x ≡ At q → end_of t p < q
+    go : (x q : ℕ) → end_of t p < x → next_element t x ≡ Some q → end_of t p < q
     go x q i e = let a = (next_ahead t x q e).0 in let b = end_ahead t x in omega arith
 
 pub elements_ascend : (t : List ℕ) (p : ℕ) → Ascending t (elements t p)
@@ -96,7 +96,7 @@ members_inside t p =
     (all_on (λ k. Entered t p (member_of t k)) (key_after t) go (suc (length t)) (first_key t p)
     (λ k e. let a = first_key_ahead t p k e in entered t p k a.0 a.1))
   where
-    go : (x k : ℕ) → Entered t p (member_of t x) → key_after t x ≡ At k → Entered t p (member_of t k)
+    go : (x k : ℕ) → Entered t p (member_of t x) → key_after t x ≡ Some k → Entered t p (member_of t k)
     go x k i e =
         let a = next_key_ahead t (value_of t x) k e in
         let b = end_ahead t (value_of t x) in
@@ -107,32 +107,32 @@ members_inside t p =
 
 -- ---- the value under a key
 -- the last member counts
-pub last_counts : (t w : List ℕ) (s : Spot) (ms : List Member) (m : Member)
-    → last_under t w s (ms ++ (m ∷ [])) ≡ cond (same (string_at t m.key) w) (At m.value) (last_under t w s ms)
+pub last_counts : (t w : List ℕ) (s : Option ℕ) (ms : List Member) (m : Member)
+    → last_under t w s (ms ++ (m ∷ [])) ≡ cond (same (string_at t m.key) w) (Some m.value) (last_under t w s ms)
 unfolding last_under
 last_counts t w s [] m = refl
-last_counts t w s (x ∷ ms) m = last_counts t w (cond (same (string_at t x.key) w) (At x.value) s) ms m
+last_counts t w s (x ∷ ms) m = last_counts t w (cond (same (string_at t x.key) w) (Some x.value) s) ms m
 
 -- what holds of every member's value holds of the value under a key
 module _ (t w : List ℕ) (P : ℕ → Type 0) where
-  of_all : (ms : List Member) (s : Spot) → All (λ m. P m.value) ms → ((v : ℕ) → s ≡ At v → P v) → (v : ℕ) → last_under t w s ms ≡ At v → P v
+  of_all : (ms : List Member) (s : Option ℕ) → All (λ m. P m.value) ms → ((v : ℕ) → s ≡ Some v → P v) → (v : ℕ) → last_under t w s ms ≡ Some v → P v
   unfolding last_under
   of_all [] s a h v e = h v e
-  of_all (m ∷ ms) s a h v e = of_all ms (cond (same (string_at t m.key) w) (At m.value) s) a.1 (go (same (string_at t m.key) w)) v e
+  of_all (m ∷ ms) s a h v e = of_all ms (cond (same (string_at t m.key) w) (Some m.value) s) a.1 (go (same (string_at t m.key) w)) v e
     where
-      go : (x : Bool) (u : ℕ) → cond x (At m.value) s ≡ At u → P u
+      go : (x : Bool) (u : ℕ) → cond x (Some m.value) s ≡ Some u → P u
       go true u f = let z : m.value ≡ u = cc in rw z at a.0
       go false u f = h u f
 
-  pub member_all : (p : ℕ) → All (λ m. P m.value) (members_at t p) → (v : ℕ) → member t p w ≡ At v → P v
+  pub member_all : (p : ℕ) → All (λ m. P m.value) (members_at t p) → (v : ℕ) → member t p w ≡ Some v → P v
   unfolding member
-  member_all p a v e = of_all (members_at t p) Nowhere a (λ u f. none f) v e
+  member_all p a v e = of_all (members_at t p) None a (λ u f. none f) v e
     where
-      none : {u : ℕ} → Nowhere ≡ At u → P u
+      none : {u : ℕ} → None ≡ Some u → P u
       none f = let z : ◌≡◌ {A = ℕ} 0 1 = cc in absurd (omega arith)
 
 -- it stands behind the brace and within the text
-pub member_inside : (t : List ℕ) (p : ℕ) (w : List ℕ) (v : ℕ) → member t p w ≡ At v → Inside t p v
+pub member_inside : (t : List ℕ) (p : ℕ) (w : List ℕ) (v : ℕ) → member t p w ≡ Some v → Inside t p v
 member_inside t p w v e = member_all t w (Inside t p) p (go (members_at t p) (members_inside t p)) v e
   where
     go : (ms : List Member) → All (Entered t p) ms → All (λ m. Inside t p m.value) ms

@@ -1,5 +1,6 @@
 -- Laws of places: white space, the ends of values, elements and members.
 -- Assumes nothing.
+use Rattle.std.specs.Prelude.{Option, Some, None}
 use mathlib.Core.Path.{◌≡◌, refl, sym, ap, ◌∙◌}
 use mathlib.Core.Bool.{Bool, true, false, cond}
 use mathlib.Core.List.{List, [], ◌∷◌}
@@ -14,14 +15,11 @@ use borrow.Author.Tests.{eq-eqb, ne_eqb}
 use Rattle.json_scan.specs.Json.{is_space}
 use Rattle.ground.specs.Bytes.{byte_at}
 use Rattle.ground.proofs.Laws.{byte_past}
-use Rattle.view.specs.declared.space.Spot.{Spot}
-use Rattle.view.specs.declared.space.Spot.TheVariants.{At, Nowhere}
-use Rattle.view.specs.declared.members.Entry.{Entry}
-use Rattle.view.specs.declared.members.Entry.TheVariants.{Of, Last}
 use Rattle.view.specs.Values.{count, skip_of, shape_of, is_value, starts_value}
 use Rattle.view.specs.Ends.{is_delimiter, is_token, literal_end, mode_after, depth_after, at_rest, to_rest, closing_of, is_block, end_of}
 use Rattle.view.specs.Elements.{value_from, first_element, next_element}
-use Rattle.view.specs.Members.{value_of, is_member, key_from, first_key, key_behind, entry_of}
+use Rattle.view.specs.Members.{value_of, is_member, key_from, first_key, key_behind, entry_of, entry}
+use Rattle.view.specs.declared.members.Member.{Member}
 
 pub never : {A : Type 0} → false ≡ true → A
 never e = let z : ◌≡◌ {A = ℕ} 0 1 = cc in absurd (omega arith)
@@ -165,59 +163,59 @@ pub value_in_text : (t : List ℕ) (p b : ℕ) → b ≡ byte_at t p → starts_
 value_in_text = class_in_text starts_value no_value
 
 module _ (t : List ℕ) (p q b : ℕ) (s : q ≡ skip_of t p) (e : b ≡ byte_at t q) where
-  pub value_here : starts_value b ≡ true → At q ≡ value_from t p
+  pub value_here : starts_value b ≡ true → Some q ≡ value_from t p
   unfolding value_from
   value_here f = rw (← s, ← e, f)
 
-  pub value_none : starts_value b ≡ false → Nowhere ≡ value_from t p
+  pub value_none : starts_value b ≡ false → None ≡ value_from t p
   unfolding value_from
   value_none f = rw (← s, ← e, f)
 
 module _ (t : List ℕ) (p b : ℕ) (e : b ≡ byte_at t p) where
-  pub element_first : b ≡ 91 → {r : Spot} → r ≡ value_from t (p + 1) → r ≡ first_element t p
+  pub element_first : b ≡ 91 → {r : Option ℕ} → r ≡ value_from t (p + 1) → r ≡ first_element t p
   unfolding first_element
   element_first f g = rw (← e, eq-eqb b 91 f) g
 
-  pub element_none : (b ≡ 91 → ⊥) → Nowhere ≡ first_element t p
+  pub element_none : (b ≡ 91 → ⊥) → None ≡ first_element t p
   unfolding first_element
   element_none f = rw (← e, ne_eqb b 91 f)
 
 -- behind the value at p: its end x, then white space up to q
 module _ (t : List ℕ) (p : ℕ) {x q b : ℕ} (d : x ≡ end_of t p) (s : q ≡ skip_of t x) (e : b ≡ byte_at t q) where
-  pub element_next : b ≡ 44 → {r : Spot} → r ≡ value_from t (q + 1) → r ≡ next_element t p
+  pub element_next : b ≡ 44 → {r : Option ℕ} → r ≡ value_from t (q + 1) → r ≡ next_element t p
   unfolding next_element
   element_next f g = rw (← d, ← s, ← e, eq-eqb b 44 f) g
 
-  pub element_last : (b ≡ 44 → ⊥) → Nowhere ≡ next_element t p
+  pub element_last : (b ≡ 44 → ⊥) → None ≡ next_element t p
   unfolding next_element
   element_last f = rw (← d, ← s, ← e, ne_eqb b 44 f)
 
-  pub key_next : b ≡ 44 → {r : Entry} → r ≡ entry_of t (key_from t (q + 1)) → r ≡ entry_of t (key_behind t p)
+  pub key_next : b ≡ 44 → {r : Option Member} → r ≡ entry_of t (key_from t (q + 1)) → r ≡ entry_of t (key_behind t p)
   unfolding key_behind
   key_next f g = rw (← d, ← s, ← e, eq-eqb b 44 f) g
 
-  pub key_last : (b ≡ 44 → ⊥) → Last ≡ entry_of t (key_behind t p)
+  pub key_last : (b ≡ 44 → ⊥) → None ≡ entry_of t (key_behind t p)
   unfolding key_behind
   key_last f = rw (← d, ← s, ← e, ne_eqb b 44 f)
 
 -- ---- members
 module _ (t : List ℕ) (p b : ℕ) (e : b ≡ byte_at t p) where
-  pub key_first : b ≡ 123 → {r : Entry} → r ≡ entry_of t (key_from t (p + 1)) → r ≡ entry_of t (first_key t p)
+  pub key_first : b ≡ 123 → {r : Option Member} → r ≡ entry_of t (key_from t (p + 1)) → r ≡ entry_of t (first_key t p)
   unfolding first_key
   key_first f g = rw (← e, eq-eqb b 123 f) g
 
-  pub key_none : (b ≡ 123 → ⊥) → Last ≡ entry_of t (first_key t p)
+  pub key_none : (b ≡ 123 → ⊥) → None ≡ entry_of t (first_key t p)
   unfolding first_key
   key_none f = rw (← e, ne_eqb b 123 f)
 
 -- white space up to k, and what stands there
 module _ (t : List ℕ) (p k b : ℕ) (s : k ≡ skip_of t p) (e : b ≡ byte_at t k) where
-  pub no_key : (b ≡ 34 → ⊥) → Last ≡ entry_of t (key_from t p)
+  pub no_key : (b ≡ 34 → ⊥) → None ≡ entry_of t (key_from t p)
   unfolding key_from is_member
   no_key n = rw (← s, ← e, ne_eqb b 34 n)
 
   module _ (i : b ≡ 34) {x c u : ℕ} (f : x ≡ end_of t k) (g : c ≡ skip_of t x) (h : u ≡ byte_at t c) where
-    pub no_colon : (u ≡ 58 → ⊥) → Last ≡ entry_of t (key_from t p)
+    pub no_colon : (u ≡ 58 → ⊥) → None ≡ entry_of t (key_from t p)
     unfolding key_from is_member
     no_colon n = rw (← s, ← e, eq-eqb b 34 i, ← f, ← g, ← h, ne_eqb u 58 n)
 
@@ -226,10 +224,10 @@ module _ (t : List ℕ) (p k b : ℕ) (s : k ≡ skip_of t p) (e : b ≡ byte_at
       unfolding value_of
       value_is = rw (← f, ← g, ← l)
 
-      pub no_member : starts_value w ≡ false → Last ≡ entry_of t (key_from t p)
+      pub no_member : starts_value w ≡ false → None ≡ entry_of t (key_from t p)
       unfolding key_from is_member
       no_member n = rw (← s, ← e, eq-eqb b 34 i, ← f, ← g, ← h, eq-eqb u 58 j, ← value_is, ← m, n)
 
-      pub is_member_lem : starts_value w ≡ true → Of k v ≡ entry_of t (key_from t p)
+      pub is_member_lem : starts_value w ≡ true → entry k v ≡ entry_of t (key_from t p)
       unfolding key_from is_member
-      is_member_lem n = rw (← s, ← e, eq-eqb b 34 i, ← f, ← g, ← h, eq-eqb u 58 j, ← value_is, ← m, n) (ap (Of k) value_is)
+      is_member_lem n = rw (← s, ← e, eq-eqb b 34 i, ← f, ← g, ← h, eq-eqb u 58 j, ← value_is, ← m, n) (ap (λ (x : ℕ). entry k x) value_is)

@@ -1,5 +1,6 @@
 -- The members that name an object, in one pass.
 -- Assumes nothing.
+use Rattle.std.specs.Prelude.{Option, Some, None}
 use mathlib.Core.Path.{◌≡◌, refl, sym, ap, ◌∙◌}
 use mathlib.Core.Bool.{Bool, true, false, cond}
 use mathlib.Core.List.{List, [], ◌∷◌, map}
@@ -9,12 +10,9 @@ use lib.Dec.{eqb}
 use lib.ListN.{length}
 use Rattle.ground.specs.Bytes.{byte_at, same}
 use Rattle.ground.proofs.Laws.{same_true}
-use Rattle.view.specs.declared.space.Spot.{Spot}
-use Rattle.view.specs.declared.space.Spot.TheVariants.{At, Nowhere}
-use Rattle.view.specs.declared.members.Entry.{Entry}
-use Rattle.view.specs.declared.members.Entry.TheVariants.{Of, Last}
 use Rattle.view.specs.Strings.{string_at}
-use Rattle.view.specs.Members.{first_key, key_behind, keys_at, Member, member_of, members_at, last_under, member, entry_of, name_key, aliases_key, title_number, titles_of}
+use Rattle.view.specs.Members.{first_key, key_behind, keys_at, member_of, members_at, last_under, member, entry_of, name_key, aliases_key, title_number, titles_of, entry}
+use Rattle.view.specs.declared.members.Member.{Member}
 use Rattle.view.proofs.Visits.{keys_done}
 use Rattle.view.proofs.KeyNumber.{differs}
 use Rattle.view.proofs.OnePass.{key_of, own, true_turn, own_value, keys_turn}
@@ -78,51 +76,51 @@ module _ (s : List ℕ) where
 -- ---- one pass
 
 -- the members that are left to read
-abbrev pub left_behind : List ℕ → Entry → List Member
+abbrev pub left_behind : List ℕ → Option Member → List Member
 left_behind t e = map (member_of t) (keys_at t (key_of e))
 
 -- the invariant: the entry is that of its own key, and what will be found is the answer
-pub record Titling (t : List ℕ) (p : ℕ) (n a : Spot) (e : Entry) : Type 0 where
+pub record Titling (t : List ℕ) (p : ℕ) (n a : Option ℕ) (e : Option Member) : Type 0 where
   pub true_entry : e ≡ entry_of t (key_of e)
   pub will_name : last_under t name_key n (left_behind t e) ≡ member t p name_key
   pub will_aliases : last_under t aliases_key a (left_behind t e) ≡ member t p aliases_key
 
 module _ (t : List ℕ) (w : List ℕ) where
-  pub last_start_lem : (p : ℕ) {e : Entry} → e ≡ entry_of t (first_key t p) → last_under t w Nowhere (left_behind t e) ≡ member t p w
+  pub last_start_lem : (p : ℕ) {e : Option Member} → e ≡ entry_of t (first_key t p) → last_under t w None (left_behind t e) ≡ member t p w
   unfolding member members_at
-  last_start_lem p {e} h = ap (λ (s : Spot). last_under t w Nowhere (map (member_of t) (keys_at t s))) (own t e (first_key t p) h)
+  last_start_lem p {e} h = ap (λ (s : Option ℕ). last_under t w None (map (member_of t) (keys_at t s))) (own t e (first_key t p) h)
 
-  pub last_turn : {e : Entry} {k v : ℕ} → e ≡ entry_of t (key_of e) → e ≡ Of k v → {e' : Entry} → e' ≡ entry_of t (key_behind t v) → (s : Spot)
-      → last_under t w (cond (same (string_at t k) w) (At v) s) (left_behind t e') ≡ last_under t w s (left_behind t e)
+  pub last_turn : {e : Option Member} {k v : ℕ} → e ≡ entry_of t (key_of e) → e ≡ entry k v → {e' : Option Member} → e' ≡ entry_of t (key_behind t v) → (s : Option ℕ)
+      → last_under t w (cond (same (string_at t k) w) (Some v) s) (left_behind t e') ≡ last_under t w s (left_behind t e)
   unfolding last_under
   last_turn {e} {k} {v} i h {e'} d s =
-      ap (λ (x : ℕ). last_under t w (cond (same (string_at t k) w) (At x) s) (left_behind t e')) (own_value t i h)
+      ap (λ (x : ℕ). last_under t w (cond (same (string_at t k) w) (Some x) s) (left_behind t e')) (own_value t i h)
       ∙ sym (ap (λ (l : List ℕ). last_under t w s (map (member_of t) l)) (keys_turn t i h d))
 
-  pub last_end : {e : Entry} → e ≡ Last → (s : Spot) → s ≡ last_under t w s (left_behind t e)
+  pub last_end : {e : Option Member} → e ≡ None → (s : Option ℕ) → s ≡ last_under t w s (left_behind t e)
   unfolding last_under
   last_end h s =
       ap (λ (l : List ℕ). last_under t w s (map (member_of t) l)) (sym (keys_done t))
-      ∙ ap (λ (x : Entry). last_under t w s (left_behind t x)) (sym h)
+      ∙ ap (λ (x : Option Member). last_under t w s (left_behind t x)) (sym h)
 
 module _ (t : List ℕ) (p : ℕ) where
-  pub titling_start : {e : Entry} → e ≡ entry_of t (first_key t p) → Titling t p Nowhere Nowhere e
+  pub titling_start : {e : Option Member} → e ≡ entry_of t (first_key t p) → Titling t p None None e
   titling_start h = record {
     true_entry = true_turn t (first_key t p) h;
     will_name = last_start_lem t name_key p h;
     will_aliases = last_start_lem t aliases_key p h;
   }
 
-  pub titling_turn : {n a : Spot} {e : Entry} → Titling t p n a e → {k v : ℕ} → e ≡ Of k v → {x : ℕ} → x ≡ title_number (string_at t k)
-      → {n' : Spot} → n' ≡ cond (eqb x 1) (At v) n → {a' : Spot} → a' ≡ cond (eqb x 3) (At v) a
-      → {e' : Entry} → e' ≡ entry_of t (key_behind t v) → Titling t p n' a' e'
+  pub titling_turn : {n a : Option ℕ} {e : Option Member} → Titling t p n a e → {k v : ℕ} → e ≡ entry k v → {x : ℕ} → x ≡ title_number (string_at t k)
+      → {n' : Option ℕ} → n' ≡ cond (eqb x 1) (Some v) n → {a' : Option ℕ} → a' ≡ cond (eqb x 3) (Some v) a
+      → {e' : Option Member} → e' ≡ entry_of t (key_behind t v) → Titling t p n' a' e'
   titling_turn {n} {a} i {k} {v} h f g b d = record {
     true_entry = true_turn t (key_behind t v) d;
     will_name = rw (g, f, tells_name (string_at t k)) (last_turn t name_key i.true_entry h d n ∙ i.will_name);
     will_aliases = rw (b, f, tells_aliases (string_at t k)) (last_turn t aliases_key i.true_entry h d a ∙ i.will_aliases);
   }
 
-  pub titling_end : {n a : Spot} {e : Entry} → Titling t p n a e → e ≡ Last → record { name = n; aliases = a } ≡ titles_of t p
+  pub titling_end : {n a : Option ℕ} {e : Option Member} → Titling t p n a e → e ≡ None → record { name = n; aliases = a } ≡ titles_of t p
   unfolding titles_of
   titling_end {n} {a} i h = λ j. record {
     name = (last_end t name_key h n ∙ i.will_name) j;

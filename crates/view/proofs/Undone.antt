@@ -15,10 +15,9 @@ use Rattle.ground.specs.Bytes.{byte_at, same, store}
 use Rattle.ground.proofs.Laws.{byte_past, store_cons, same_unlike}
 use Rattle.view.specs.declared.strings.Piece.{Piece}
 use Rattle.view.specs.declared.strings.Cursor.{Cursor}
-use Rattle.view.specs.declared.strings.Step.{Step}
-use Rattle.view.specs.declared.strings.Step.TheVariants.{Byte, End}
 use Rattle.view.specs.Strings.{hex_of, unit_at, utf8_of, short_of, Part, part_of, part_at, is_stop, string_from, bytes_from, string_at, Spells, left_of, Within, Reads}
 use Rattle.view.proofs.Places.{never}
+use Rattle.std.specs.Prelude.{Option, Some, None}
 
 -- ---- the cases of an escape
 module _ (t : List ℕ) (p : ℕ) where
@@ -279,7 +278,7 @@ fresh : (t : List ℕ) (p : ℕ) → Within t (cursor p 0)
 fresh t p = record { within = (part_holds t p).some }
 
 module _ (t : List ℕ) (c : Cursor) {b : ℕ} (e : b ≡ byte_at t c.at) where
-  pub read_stop : is_stop b ≡ true → Reads t (left_of t c) End
+  pub read_stop : is_stop b ≡ true → Reads t (left_of t c) None
   unfolding left_of
   read_stop f = record { reads = ap (λ (l : List ℕ). drop c.passed l) (bytes_stop t c.at (ap (λ (x : ℕ). is_stop x) (sym e) ∙ f)) ∙ drop-nil c.passed }
 
@@ -287,7 +286,7 @@ module _ (t : List ℕ) (c : Cursor) {b : ℕ} (e : b ≡ byte_at t c.at) where
     next : bytes_from t c.at ≡ (part_at t c.at).bytes ++ bytes_from t (part_at t c.at).next
     next = bytes_next t c.at (ap (λ (x : ℕ). is_stop x) (sym e) ∙ f)
 
-    pub read_plain : (b ≡ 92 → ⊥) → Reads t (left_of t c) (Byte b (cursor (c.at + 1) 0))
+    pub read_plain : (b ≡ 92 → ⊥) → Reads t (left_of t c) (Some (b, cursor (c.at + 1) 0))
     unfolding left_of
     read_plain n =
         let p = part_plain t c.at e n in
@@ -316,14 +315,14 @@ module _ (t : List ℕ) (c : Cursor) {b : ℕ} (e : b ≡ byte_at t c.at) where
           let k : c.passed < length (take x.n x.bytes) = omega arith in
           rw (piece, add-one, drop-append-le c.passed (take x.n x.bytes) (bytes_from t x.next) (omega arith), drop-append-le (suc c.passed) (take x.n x.bytes) (bytes_from t x.next) (omega arith), drop-cons (take x.n x.bytes) c.passed 0 k, get_or-take x.n x.bytes c.passed 0 h)
 
-      pub read_more : c.passed + 1 < x.n → Reads t (left_of t c) (Byte (get_or x.bytes c.passed 0) (cursor c.at (c.passed + 1)))
+      pub read_more : c.passed + 1 < x.n → Reads t (left_of t c) (Some (get_or x.bytes c.passed 0, (cursor c.at (c.passed + 1))))
       unfolding left_of
       read_more l =
           let z = sized in
           let k : c.passed + 1 < length (take x.n x.bytes) = omega arith in
           record { reads = (byte, record { within = subst (λ (y : Part). c.passed + 1 < length y.bytes) s.is k }) }
 
-      pub read_last : x.n ≤ c.passed + 1 → Reads t (left_of t c) (Byte (get_or x.bytes c.passed 0) (cursor x.next 0))
+      pub read_last : x.n ≤ c.passed + 1 → Reads t (left_of t c) (Some (get_or x.bytes c.passed 0, (cursor x.next 0)))
       unfolding left_of
       read_last l =
           let z = sized in
@@ -342,15 +341,15 @@ module _ (t : List ℕ) (p b : ℕ) (e : b ≡ byte_at t p) where
   unopened f = (rw (← e, ne_eqb b 34 f) (bytes_stop t (length t) (past_stop t (length t) (omega arith))), fresh t (length t))
 
 -- ---- what a step tells
-module _ {t l : List ℕ} {s : Step} (r : Reads t l s) where
-  pub read_end : s ≡ End → l ≡ []
-  read_end e = (subst (λ (x : Step). Reads t l x) e r).reads
+module _ {t l : List ℕ} {s : Option (ℕ × Cursor)} (r : Reads t l s) where
+  pub read_end : s ≡ None → l ≡ []
+  read_end e = (subst (λ (x : Option (ℕ × Cursor)). Reads t l x) e r).reads
 
-  pub read_byte : {b : ℕ} {d : Cursor} → s ≡ Byte b d → l ≡ b ∷ left_of t d
-  read_byte e = (subst (λ (x : Step). Reads t l x) e r).reads.0
+  pub read_byte : {b : ℕ} {d : Cursor} → s ≡ Some (b, d) → l ≡ b ∷ left_of t d
+  read_byte e = (subst (λ (x : Option (ℕ × Cursor)). Reads t l x) e r).reads.0
 
-  pub read_within : {b : ℕ} {d : Cursor} → s ≡ Byte b d → Within t d
-  read_within e = (subst (λ (x : Step). Reads t l x) e r).reads.1
+  pub read_within : {b : ℕ} {d : Cursor} → s ≡ Some (b, d) → Within t d
+  read_within e = (subst (λ (x : Option (ℕ × Cursor)). Reads t l x) e r).reads.1
 
 -- ---- a length against a number: so many bytes may still come as are left
 module _ (s n more left : ℕ) (inv : n + left ≡ s + more) where

@@ -1,15 +1,12 @@
 -- The members of an object by key.
 -- Assumes nothing.
-use Rattle.std.specs.Prelude.{ℕ, suc, ◌+◌, Bool, cond, ◌&&◌, List, [], ◌∷◌, map, eqb, length}
+use Rattle.std.specs.Prelude.{ℕ, suc, ◌+◌, Bool, cond, ◌&&◌, List, [], ◌∷◌, map, eqb, length, Option, Some, None}
 use Rattle.ground.specs.Bytes.{byte_at, same}
 use Rattle.view.specs.Values.{skip_of, starts_value}
 use Rattle.view.specs.Ends.{end_of}
 use Rattle.view.specs.Elements.{unroll}
 use Rattle.view.specs.Strings.{string_at}
-use Rattle.view.specs.declared.space.Spot.{Spot}
-use Rattle.view.specs.declared.space.Spot.TheVariants.{At, Nowhere}
-use Rattle.view.specs.declared.members.Entry.{Entry}
-use Rattle.view.specs.declared.members.Entry.TheVariants.{Of, Last}
+use Rattle.view.specs.declared.members.Member.{Member}
 use Rattle.view.specs.declared.members.Members.{Members}
 use Rattle.view.specs.declared.members.Titles.{Titles}
 
@@ -25,27 +22,27 @@ unfoldable pub is_member : List ℕ → ℕ → Bool
 is_member t k = eqb (byte_at t k) 34 && eqb (byte_at t (colon_of t k)) 58 && starts_value (byte_at t (value_of t k))
 
 -- the key of the member that stands past the white space at p, if one does
-unfoldable pub key_from : List ℕ → ℕ → Spot
-key_from t p = cond (is_member t (skip_of t p)) (At (skip_of t p)) Nowhere
+unfoldable pub key_from : List ℕ → ℕ → Option ℕ
+key_from t p = cond (is_member t (skip_of t p)) (Some (skip_of t p)) None
 
 -- what is no object has no members
-unfoldable pub first_key : List ℕ → ℕ → Spot
-first_key t p = cond (eqb (byte_at t p) 123) (key_from t (p + 1)) Nowhere
+unfoldable pub first_key : List ℕ → ℕ → Option ℕ
+first_key t p = cond (eqb (byte_at t p) 123) (key_from t (p + 1)) None
 
 -- behind the value at v: white space, a comma, and the next key
-unfoldable pub key_behind : List ℕ → ℕ → Spot
-key_behind t v = let e = skip_of t (end_of t v) in cond (eqb (byte_at t e) 44) (key_from t (e + 1)) Nowhere
+unfoldable pub key_behind : List ℕ → ℕ → Option ℕ
+key_behind t v = let e = skip_of t (end_of t v) in cond (eqb (byte_at t e) 44) (key_from t (e + 1)) None
 
-abbrev pub key_after : List ℕ → ℕ → Spot
+abbrev pub key_after : List ℕ → ℕ → Option ℕ
 key_after t k = key_behind t (value_of t k)
 
 -- the keys from a place on; there are no more than the text has bytes (`keys_next`)
-unfoldable pub keys_at : List ℕ → Spot → List ℕ
+unfoldable pub keys_at : List ℕ → Option ℕ → List ℕ
 keys_at t s = unroll (key_after t) (suc (length t)) s
 
-pub record Member : Type 0 where
-  pub key : ℕ
-  pub value : ℕ
+-- a member, by the places of its key and of its value
+abbrev pub entry : ℕ → ℕ → Option Member
+entry k v = Some (record { key = k; value = v })
 
 abbrev pub member_of : List ℕ → ℕ → Member
 member_of t k = record { key = k; value = value_of t k }
@@ -55,13 +52,13 @@ unfoldable pub members_at : List ℕ → ℕ → List Member
 members_at t p = map (member_of t) (keys_at t (first_key t p))
 
 -- the value of the last of the members whose key is w, or s
-unfoldable pub last_under : List ℕ → List ℕ → Spot → List Member → Spot
+unfoldable pub last_under : List ℕ → List ℕ → Option ℕ → List Member → Option ℕ
 last_under t w s [] = s
-last_under t w s (m ∷ ms) = last_under t w (cond (same (string_at t m.key) w) (At m.value) s) ms
+last_under t w s (m ∷ ms) = last_under t w (cond (same (string_at t m.key) w) (Some m.value) s) ms
 
 -- the value under the key w in the object at p: the last counts
-unfoldable pub member : List ℕ → ℕ → List ℕ → Spot
-member t p w = last_under t w Nowhere (members_at t p)
+unfoldable pub member : List ℕ → ℕ → List ℕ → Option ℕ
+member t p w = last_under t w None (members_at t p)
 
 -- ---- the keys that a declaration looks at
 
@@ -144,7 +141,7 @@ key_number s = index_of s keys
 unfoldable pub title_number : List ℕ → ℕ
 title_number s = cond (same s name_key) 1 (cond (same s aliases_key) 3 13)
 
--- a key's place, with its value's
-abbrev pub entry_of : List ℕ → Spot → Entry
-entry_of t (At k) = Of k (value_of t k)
-entry_of t Nowhere = Last
+-- the member, if there is one, whose key stands at a place, if it stands at one
+abbrev pub entry_of : List ℕ → Option ℕ → Option Member
+entry_of t (Some k) = Some (member_of t k)
+entry_of t None = None

@@ -1,12 +1,10 @@
 -- The bytes of a string, escapes undone.
 -- Assumes nothing.
-use Rattle.std.specs.Prelude.{ℕ, zero, suc, ◌+◌, ◌-◌, ◌*◌, ◌/◌, ◌%◌, ◌<◌, ◌≤◌, ◌≡◌, Bool, cond, ◌||◌, List, [], ◌∷◌, ◌++◌, eqb, ltb, leb, length, take, drop}
+use Rattle.std.specs.Prelude.{ℕ, zero, suc, ◌+◌, ◌-◌, ◌*◌, ◌/◌, ◌%◌, ◌<◌, ◌≤◌, ◌≡◌, Bool, cond, ◌||◌, List, [], ◌∷◌, ◌++◌, eqb, ltb, leb, length, take, drop, Option, Some, None}
 use Rattle.ground.specs.Bytes.{byte_at, part}
 use Rattle.view.specs.Ends.{closing_of}
 use Rattle.view.specs.declared.strings.Piece.{Piece}
 use Rattle.view.specs.declared.strings.Cursor.{Cursor}
-use Rattle.view.specs.declared.strings.Step.{Step}
-use Rattle.view.specs.declared.strings.Step.TheVariants.{Byte, End}
 
 -- the value of a hexadecimal digit
 unfoldable pub hex_of : ℕ → ℕ
@@ -94,9 +92,9 @@ pub record Within (t : List ℕ) (c : Cursor) : Type 0 where
   pub within : c.passed < length (part_at t c.at).bytes
 
 -- the first byte that is left, and what is left behind it
-abbrev pub Reads' : List ℕ → List ℕ → Step → Type 0
-Reads' t left (Byte b c) = (left ≡ b ∷ left_of t c) × Within t c
-Reads' t left End = left ≡ []
+abbrev pub Reads' : List ℕ → List ℕ → Option (ℕ × Cursor) → Type 0
+Reads' t left (Some (b, c)) = (left ≡ b ∷ left_of t c) × Within t c
+Reads' t left None = left ≡ []
 
-pub record Reads (t left : List ℕ) (s : Step) : Type 0 where
+pub record Reads (t left : List ℕ) (s : Option (ℕ × Cursor)) : Type 0 where
   pub reads : Reads' t left s

@@ -5,7 +5,7 @@ ghost use Rattle.view.specs.Marks.{mark_step, marking, marked, mark_from, mark_o
 ghost use Rattle.view.specs.Strings.{string_at};
 
 use super::literals::literal;
-use super::strings::{Step, next_byte, opening};
+use super::strings::{next_byte, opening};
 
 fn wide(b: u8) -> u64
     ensures { (result ≡ b) × (result < 256) }
@@ -111,15 +111,11 @@ fn spelled_mark(text: &[u8], at: usize) -> u64
         w: 0,
         n: 0,
     };
-    loop {
-        match next_byte(text, c) {
-            Step::End => return more(m.h, m.w + 16777216 * m.n),
-            Step::Byte(b, next) => {
-                m = with_byte(m, b);
-                c = next;
-            }
-        }
+    while let Some((b, next)) = next_byte(text, c) {
+        m = with_byte(m, b);
+        c = next;
     }
+    more(m.h, m.w + 16777216 * m.n)
 }
 
 // The mark of the string at `at`.

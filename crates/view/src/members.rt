@@ -1,34 +1,33 @@
 // The members of an object by key.
-ghost use Rattle.std.specs.Prelude.{◌≡◌, cond, eqb};
+ghost use Rattle.std.specs.Prelude.{◌≡◌, cond, eqb, Some};
 ghost use Rattle.ground.specs.Bytes.{same};
 ghost use Rattle.view.specs.Strings.{string_at};
 ghost use Rattle.view.specs.Known.{Known};
-ghost use Rattle.view.specs.declared.space.Spot.TheVariants.{At};
 ghost use Rattle.view.specs.Members.{key_from, first_key, key_behind, entry_of, key_number, members_of, title_number, titles_of, name_key, namespace_key, symbols_key, size_key, scale_key};
 
 use super::ends::end;
 use super::literals::literal;
 use super::shape::starts_value;
-use super::space::{Spot, skip};
+use super::space::skip;
 use super::strings::{read_copy, read_is};
 use ground::{byte_at, same};
 
 // The values of an object's members, by the keys that a declaration looks at; of two under one key the last.
 #[derive(Clone, Copy)]
 pub struct Members {
-    pub typed: Spot,
-    pub name: Spot,
-    pub namespace: Spot,
-    pub aliases: Spot,
-    pub fields: Spot,
-    pub symbols: Spot,
-    pub default: Spot,
-    pub size: Spot,
-    pub items: Spot,
-    pub values: Spot,
-    pub logical_type: Spot,
-    pub precision: Spot,
-    pub scale: Spot,
+    pub typed: Option<usize>,
+    pub name: Option<usize>,
+    pub namespace: Option<usize>,
+    pub aliases: Option<usize>,
+    pub fields: Option<usize>,
+    pub symbols: Option<usize>,
+    pub default: Option<usize>,
+    pub size: Option<usize>,
+    pub items: Option<usize>,
+    pub values: Option<usize>,
+    pub logical_type: Option<usize>,
+    pub precision: Option<usize>,
+    pub scale: Option<usize>,
 }
 
 // The numbers of the keys; `OTHER` is that of every other key.
@@ -65,50 +64,50 @@ impl Members {
 // Of these the two that name an object.
 #[derive(Clone, Copy)]
 pub struct Titles {
-    pub name: Spot,
-    pub aliases: Spot,
+    pub name: Option<usize>,
+    pub aliases: Option<usize>,
 }
 
 // A member: the places of its key and of its value.
 #[derive(Clone, Copy)]
-pub enum Entry {
-    Of(usize, usize),
-    Last,
+pub struct Member {
+    pub key: usize,
+    pub value: usize,
 }
 
 // The member past the white space at `at`, if one stands there.
-fn member_from(text: &[u8], ends: &[u16], at: usize) -> Entry
+fn member_from(text: &[u8], ends: &[u16], at: usize) -> Option<Member>
     requires { Known text.now ends.now }
     ensures { result ≡ entry_of text.now (key_from text.now at) }
 {
     let key = skip(text, at);
     if byte_at(text, key) != b'"' {
-        return Entry::Last;
+        return None;
     }
     let colon = skip(text, end(text, ends, key));
     if byte_at(text, colon) != b':' {
-        return Entry::Last;
+        return None;
     }
     let value = skip(text, colon + 1);
     if starts_value(byte_at(text, value)) {
-        return Entry::Of(key, value);
+        return Some(Member { key, value });
     }
-    Entry::Last
+    None
 }
 
 // The first member of the object at `at`.
-pub fn first_member(text: &[u8], ends: &[u16], at: usize) -> Entry
+pub fn first_member(text: &[u8], ends: &[u16], at: usize) -> Option<Member>
     requires { Known text.now ends.now }
     ensures { result ≡ entry_of text.now (first_key text.now at) }
 {
     if byte_at(text, at) == b'{' {
         return member_from(text, ends, at + 1);
     }
-    Entry::Last
+    None
 }
 
 // The member behind the one whose value is at `at`.
-pub fn next_member(text: &[u8], ends: &[u16], at: usize) -> Entry
+pub fn next_member(text: &[u8], ends: &[u16], at: usize) -> Option<Member>
     requires { Known text.now ends.now }
     ensures { result ≡ entry_of text.now (key_behind text.now at) }
 {
@@ -116,7 +115,7 @@ pub fn next_member(text: &[u8], ends: &[u16], at: usize) -> Entry
     if byte_at(text, e) == b',' {
         return member_from(text, ends, e + 1);
     }
-    Entry::Last
+    None
 }
 
 // The number, where the key is the word.
@@ -214,33 +213,27 @@ pub fn members_at(text: &[u8], ends: &[u16], at: usize) -> Members
     requires { Known text.now ends.now }
     ensures { result ≡ members_of text.now at }
 {
-    let mut found = [Spot::Nowhere; 14];
+    let mut found = [None; 14];
     let mut entry = first_member(text, ends, at);
-    loop {
-        match entry {
-            Entry::Last => {
-                return Members {
-                    typed: found[Members::TYPE],
-                    name: found[Members::NAME],
-                    namespace: found[Members::NAMESPACE],
-                    aliases: found[Members::ALIASES],
-                    fields: found[Members::FIELDS],
-                    symbols: found[Members::SYMBOLS],
-                    default: found[Members::DEFAULT],
-                    size: found[Members::SIZE],
-                    items: found[Members::ITEMS],
-                    values: found[Members::VALUES],
-                    logical_type: found[Members::LOGICAL_TYPE],
-                    precision: found[Members::PRECISION],
-                    scale: found[Members::SCALE],
-                };
-            }
-            Entry::Of(key, value) => {
-                let n = key_number(text, ends, key);
-                found[n] = Spot::At(value);
-                entry = next_member(text, ends, value);
-            }
-        }
+    while let Some(Member { key, value }) = entry {
+        let n = key_number(text, ends, key);
+        found[n] = Some(value);
+        entry = next_member(text, ends, value);
+    }
+    Members {
+        typed: found[Members::TYPE],
+        name: found[Members::NAME],
+        namespace: found[Members::NAMESPACE],
+        aliases: found[Members::ALIASES],
+        fields: found[Members::FIELDS],
+        symbols: found[Members::SYMBOLS],
+        default: found[Members::DEFAULT],
+        size: found[Members::SIZE],
+        items: found[Members::ITEMS],
+        values: found[Members::VALUES],
+        logical_type: found[Members::LOGICAL_TYPE],
+        precision: found[Members::PRECISION],
+        scale: found[Members::SCALE],
     }
 }
 
@@ -286,11 +279,11 @@ fn title_number(text: &[u8], ends: &[u16], at: usize) -> usize
 }
 
 // The value, where the key's number is the one looked for; else what was found before.
-fn found_if(number: usize, wanted: usize, value: usize, found: Spot) -> Spot
-    ensures { result ≡ cond (eqb number wanted) (At value) found }
+fn found_if(number: usize, wanted: usize, value: usize, found: Option<usize>) -> Option<usize>
+    ensures { result ≡ cond (eqb number wanted) (Some value) found }
 {
     if number == wanted {
-        return Spot::At(value);
+        return Some(value);
     }
     found
 }
@@ -300,20 +293,14 @@ pub fn titles_at(text: &[u8], ends: &[u16], at: usize) -> Titles
     requires { Known text.now ends.now }
     ensures { result ≡ titles_of text.now at }
 {
-    let mut name = Spot::Nowhere;
-    let mut aliases = Spot::Nowhere;
+    let mut name = None;
+    let mut aliases = None;
     let mut entry = first_member(text, ends, at);
-    loop {
-        match entry {
-            Entry::Last => {
-                return Titles { name, aliases };
-            }
-            Entry::Of(key, value) => {
-                let n = title_number(text, ends, key);
-                name = found_if(n, Members::NAME, value, name);
-                aliases = found_if(n, Members::ALIASES, value, aliases);
-                entry = next_member(text, ends, value);
-            }
-        }
+    while let Some(Member { key, value }) = entry {
+        let n = title_number(text, ends, key);
+        name = found_if(n, Members::NAME, value, name);
+        aliases = found_if(n, Members::ALIASES, value, aliases);
+        entry = next_member(text, ends, value);
     }
+    Titles { name, aliases }
 }

@@ -5,13 +5,6 @@ ghost use Rattle.view.specs.Size.{size_of};
 use super::bytes::{is_delimiter, is_digit};
 use ground::byte_at;
 
-// The value of a size literal.
-#[derive(Clone, Copy)]
-pub enum Size {
-    Value(u64),
-    NoSize,
-}
-
 fn wide(b: u8) -> u64
     ensures { (result ≡ b) × (result < 256) }
 {
@@ -19,11 +12,11 @@ fn wide(b: u8) -> u64
 }
 
 // The number of digits only that stands at `at`, if there is one and it fits.
-pub fn size_literal(text: &[u8], at: usize) -> Size
+pub fn size_literal(text: &[u8], at: usize) -> Option<u64>
     ensures { result ≡ size_of text.now at }
 {
     if !is_digit(byte_at(text, at)) {
-        return Size::NoSize;
+        return None;
     }
     let mut v: u64 = 0;
     let mut p = at;
@@ -32,16 +25,16 @@ pub fn size_literal(text: &[u8], at: usize) -> Size
         if is_digit(b) {
             let d = wide(b) - 48;
             if v > (18446744073709551615 - d) / 10 {
-                return Size::NoSize;
+                return None;
             }
             v = v * 10 + d;
             p += 1;
         } else {
             if is_delimiter(b) {
-                return Size::Value(v);
+                return Some(v);
             }
-            return Size::NoSize;
+            return None;
         }
     }
-    Size::Value(v)
+    Some(v)
 }

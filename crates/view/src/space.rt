@@ -4,13 +4,6 @@ ghost use Rattle.view.specs.Values.{skip_of, value_start};
 
 use super::bytes::is_space;
 
-// A place in the text, or none.
-#[derive(Clone, Copy)]
-pub enum Spot {
-    At(usize),
-    Nowhere,
-}
-
 // Past the white space at `at`.
 pub fn skip(text: &[u8], at: usize) -> usize
     ensures { result ≡ skip_of text.now at }

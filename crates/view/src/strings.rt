@@ -20,13 +20,6 @@ pub struct Cursor {
     pub passed: usize,
 }
 
-// The next byte of a string, and what comes behind it.
-#[derive(Clone, Copy)]
-pub enum Step {
-    Byte(u8, Cursor),
-    End,
-}
-
 fn hex(b: u8) -> u32
     ensures { (result ≡ hex_of b) × (result < 16) }
 {
@@ -175,8 +168,8 @@ pub fn part_at(text: &[u8], at: usize) -> Piece
     }
 }
 
-// The next byte of a string.
-pub fn next_byte(text: &[u8], c: Cursor) -> Step
+// The next byte of a string, and what comes behind it; none at its end.
+pub fn next_byte(text: &[u8], c: Cursor) -> Option<(u8, Cursor)>
     requires { Within text.now c }
     ensures { Reads text.now (left_of text.now c) result }
 {
@@ -184,30 +177,26 @@ pub fn next_byte(text: &[u8], c: Cursor) -> Step
     let i = c.passed;
     let b = byte_at(text, at);
     if is_stop(b) {
-        return Step::End;
+        return None;
     }
     if b != b'\\' {
-        return Step::Byte(
-            b,
-            Cursor {
-                at: at + 1,
-                passed: 0,
-            },
-        );
+        let next = Cursor {
+            at: at + 1,
+            passed: 0,
+        };
+        return Some((b, next));
     }
     let x = escape_at(text, at);
     let bytes = x.bytes;
     let u = bytes[i];
     if i + 1 < x.n {
-        return Step::Byte(u, Cursor { at, passed: i + 1 });
+        return Some((u, Cursor { at, passed: i + 1 }));
     }
-    Step::Byte(
-        u,
-        Cursor {
-            at: x.next,
-            passed: 0,
-        },
-    )
+    let next = Cursor {
+        at: x.next,
+        passed: 0,
+    };
+    Some((u, next))
 }
 
 // Before the first byte of the string at `at`.
@@ -254,15 +243,11 @@ fn spelled_length(text: &[u8], at: usize) -> usize
 {
     let mut c = opening(text, at);
     let mut n: usize = 0;
-    loop {
-        match next_byte(text, c) {
-            Step::End => return n,
-            Step::Byte(_, next) => {
-                n += 1;
-                c = next;
-            }
-        }
+    while let Some((_, next)) = next_byte(text, c) {
+        n += 1;
+        c = next;
     }
+    n
 }
 
 // The length of the string at `at`.
@@ -285,16 +270,14 @@ fn has_length(text: &[u8], at: usize, n: usize) -> bool
 {
     let mut c = opening(text, at);
     let mut more = n;
-    loop {
-        let Step::Byte(_, next) = next_byte(text, c) else {
-            return more == 0;
-        };
+    while let Some((_, next)) = next_byte(text, c) {
         if more == 0 {
             return false;
         }
         more -= 1;
         c = next;
     }
+    more == 0
 }
 
 // Is the string at `at` the word? What an escape is can be told from its front alone, so bytes are compared from the first.
@@ -306,16 +289,14 @@ pub(crate) fn read_is(text: &[u8], at: usize, word: &[u8]) -> bool
     }
     let mut c = opening(text, at);
     let mut i: usize = 0;
-    loop {
-        let Step::Byte(b, next) = next_byte(text, c) else {
-            return true;
-        };
+    while let Some((b, next)) = next_byte(text, c) {
         if word[i] != b {
             return false;
         }
         i += 1;
         c = next;
     }
+    true
 }
 
 // Stores a byte where there is room.
@@ -333,16 +314,12 @@ pub(crate) fn read_copy(text: &[u8], at: usize, out: &mut [u8]) -> usize
 {
     let mut c = opening(text, at);
     let mut i: usize = 0;
-    loop {
-        match next_byte(text, c) {
-            Step::End => return i,
-            Step::Byte(b, next) => {
-                put(out, i, b);
-                i += 1;
-                c = next;
-            }
-        }
+    while let Some((b, next)) = next_byte(text, c) {
+        put(out, i, b);
+        i += 1;
+        c = next;
     }
+    i
 }
 
 // Are the strings at the two places the same?
@@ -354,11 +331,8 @@ pub(crate) fn read_same(text: &[u8], one: usize, other: usize) -> bool
     }
     let mut c = opening(text, one);
     let mut d = opening(text, other);
-    loop {
-        let Step::Byte(a, after) = next_byte(text, c) else {
-            return true;
-        };
-        let Step::Byte(b, behind) = next_byte(text, d) else {
+    while let Some((a, after)) = next_byte(text, c) {
+        let Some((b, behind)) = next_byte(text, d) else {
             return false;
         };
         if a != b {
@@ -367,4 +341,5 @@ pub(crate) fn read_same(text: &[u8], one: usize, other: usize) -> bool
         c = after;
         d = behind;
     }
+    true
 }

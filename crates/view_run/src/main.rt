@@ -10,7 +10,7 @@ use ground::byte_at;
 use script::input::read_full;
 use std::io;
 use std::io::Stdout;
-use view::{Members, Shape, Size, Spot};
+use view::{Members, Shape};
 
 fn digit(b: u8) -> u8
     ensures { result < 16 }
@@ -73,10 +73,10 @@ fn print_flag(stdout: Stdout, flag: bool) -> io::Result<()> {
     }
 }
 
-fn print_spot(stdout: Stdout, s: Spot) -> io::Result<()> {
+fn print_spot(stdout: Stdout, s: Option<usize>) -> io::Result<()> {
     match s {
-        Spot::At(p) => print_number(stdout, p),
-        Spot::Nowhere => print!(stdout; " -"),
+        Some(p) => print_number(stdout, p),
+        None => print!(stdout; " -"),
     }
 }
 
@@ -96,10 +96,10 @@ fn print_string(stdout: Stdout, text: &[u8], ends: &[u16], at: usize) -> io::Res
     print_flag(stdout, view::string_is(text, ends, at, b"record"))
 }
 
-fn print_size(stdout: Stdout, s: Size) -> io::Result<()> {
+fn print_size(stdout: Stdout, s: Option<u64>) -> io::Result<()> {
     match s {
-        Size::Value(v) => print!(stdout; " {v}"),
-        Size::NoSize => print!(stdout; " -"),
+        Some(v) => print!(stdout; " {v}"),
+        None => print!(stdout; " -"),
     }
 }
 
@@ -132,12 +132,12 @@ fn print_members(stdout: Stdout, m: Members) -> io::Result<()> {
     print_spot(stdout, scale)
 }
 
-fn print_same(stdout: Stdout, text: &[u8], ends: &[u16], first: Spot, p: usize) -> io::Result<()>
+fn print_same(stdout: Stdout, text: &[u8], ends: &[u16], first: Option<usize>, p: usize) -> io::Result<()>
     requires { Known text.now ends.now }
 {
     match first {
-        Spot::At(q) => print_flag(stdout, view::strings_same(text, ends, q, p)),
-        Spot::Nowhere => Ok(()),
+        Some(q) => print_flag(stdout, view::strings_same(text, ends, q, p)),
+        None => Ok(()),
     }
 }
 
@@ -149,8 +149,8 @@ fn print_elements(stdout: Stdout, text: &[u8], ends: &[u16], at: usize) -> io::R
     let mut spot = view::first_element(text, at);
     loop {
         match spot {
-            Spot::Nowhere => return Ok(()),
-            Spot::At(p) => {
+            None => return Ok(()),
+            Some(p) => {
                 print_number(stdout, p)?;
                 print_same(stdout, text, ends, first, p)?;
                 spot = view::next_element(text, ends, p);
@@ -191,15 +191,15 @@ fn print_value(stdout: Stdout, text: &[u8], ends: &[u16], at: usize) -> io::Resu
     println!(stdout)
 }
 
-fn print_inner(stdout: Stdout, text: &[u8], ends: &[u16], s: Spot) -> io::Result<()>
+fn print_inner(stdout: Stdout, text: &[u8], ends: &[u16], s: Option<usize>) -> io::Result<()>
     requires { Known text.now ends.now }
 {
     match s {
-        Spot::At(p) => {
+        Some(p) => {
             print!(stdout; " ")?;
             print_value(stdout, text, ends, p)
         }
-        Spot::Nowhere => Ok(()),
+        None => Ok(()),
     }
 }
 
@@ -209,9 +209,9 @@ fn print_all_elements(stdout: Stdout, text: &[u8], ends: &[u16], at: usize) -> i
     let mut spot = view::first_element(text, at);
     loop {
         match spot {
-            Spot::Nowhere => return Ok(()),
-            Spot::At(p) => {
-                print_inner(stdout, text, ends, Spot::At(p))?;
+            None => return Ok(()),
+            Some(p) => {
+                print_inner(stdout, text, ends, Some(p))?;
                 spot = view::next_element(text, ends, p);
             }
         }

@@ -1,6 +1,7 @@
 -- In a text whose scan is whole every element of an array and every member's value is such a value again; the elements end at the
 -- array's `]` and the members at the object's `}`.
 -- Assumes nothing.
+use Rattle.std.specs.Prelude.{Some, None}
 use mathlib.Core.Path.{◌≡◌, refl, sym, ap, ◌∙◌, subst}
 use mathlib.Core.Bool.{Bool, true, false, cond, ◌&&◌}
 use mathlib.Core.List.{List, ◌∷◌}
@@ -16,7 +17,6 @@ use Rattle.json_scan.specs.Meets.{run_at}
 use Rattle.json_scan.specs.declared.verdict.Scan.TheVariants.{Whole}
 use Rattle.ground.specs.Bytes.{byte_at}
 use Rattle.ground.proofs.Laws.{and_intro}
-use Rattle.view.specs.declared.space.Spot.TheVariants.{At, Nowhere}
 use Rattle.view.specs.Values.{skip_of, shape_of, is_value, starts_value}
 use Rattle.view.specs.Ends.{mode_after, depth_after, at_rest, to_rest, closing_of, is_block, end_of}
 use Rattle.view.specs.Elements.{value_from, first_element, next_element, unroll, elements_at, elements}
@@ -50,17 +50,17 @@ module _ (t : List ℕ) (p : ℕ) where
   shut_or m κ κ' true y l h = never (sym h)
   shut_or m κ κ' false y l h = only m κ' y l
 
-  found : (q : ℕ) → starts_value (byte_at t (skip_of t q)) ≡ true → value_from t q ≡ At (skip_of t q)
+  found : (q : ℕ) → starts_value (byte_at t (skip_of t q)) ≡ true → value_from t q ≡ Some (skip_of t q)
   unfolding value_from
   found q h = rw h
 
-same_spot : {p q : ℕ} → At p ≡ At q → p ≡ q
+same_spot : {p q : ℕ} → Some p ≡ Some q → p ≡ q
 same_spot h = cc
 
-nowhere : {A : Type 0} {q : ℕ} → At q ≡ Nowhere → A
+nowhere : {A : Type 0} {q : ℕ} → Some q ≡ None → A
 nowhere h = let z : ◌≡◌ {A = ℕ} 0 1 = cc in absurd (omega arith)
 
-somewhere : {A : Type 0} {q : ℕ} → Nowhere ≡ At q → A
+somewhere : {A : Type 0} {q : ℕ} → None ≡ Some q → A
 somewhere h = let z : ◌≡◌ {A = ℕ} 0 1 = cc in absurd (omega arith)
 
 unspaced : (m : Mode) (k : Stack) (b : ℕ) (x : Move) → is_space b ≡ false → spaced m k b x ≡ x
@@ -80,23 +80,23 @@ module _ (t : List ℕ) (k : Stack) where
         let l = more t q first (square ∷ k) refl first_on in
         value_here t (square ∷ k) q n (alike t q first val (square ∷ k) l (unspaced first (square ∷ k) (byte_at t q) _ n ∙ ap (λ (y : Bool). cond y (go done k) (begin (byte_at t q) (square ∷ k))) h ∙ sym (unspaced val (square ∷ k) (byte_at t q) _ n)) first_on)
 
-    no_value : eqb (byte_at t (skip_of t (p + 1))) 93 ≡ true → value_from t (p + 1) ≡ Nowhere
+    no_value : eqb (byte_at t (skip_of t (p + 1))) 93 ≡ true → value_from t (p + 1) ≡ None
     unfolding value_from shape_of is_value
     no_value h = rw (eqb-true (byte_at t (skip_of t (p + 1))) 93 h)
 
-    pub first_scanned : (q : ℕ) → first_element t p ≡ At q → Scanned t q (square ∷ k)
+    pub first_scanned : (q : ℕ) → first_element t p ≡ Some q → Scanned t q (square ∷ k)
     unfolding first_element
     first_scanned q h = go1 (eqb (byte_at t (skip_of t (p + 1))) 93) refl (sym (rw (e)) ∙ h)
       where
-        go1 : (x : Bool) → eqb (byte_at t (skip_of t (p + 1))) 93 ≡ x → value_from t (p + 1) ≡ At q → Scanned t q (square ∷ k)
+        go1 : (x : Bool) → eqb (byte_at t (skip_of t (p + 1))) 93 ≡ x → value_from t (p + 1) ≡ Some q → Scanned t q (square ∷ k)
         go1 true i g = somewhere (sym (no_value i) ∙ g)
         go1 false i g = subst (λ (x : ℕ). Scanned t x (square ∷ k)) (same_spot (sym (found t p (p + 1) (first_value i).value) ∙ g)) (first_value i)
 
-    pub first_closes : first_element t p ≡ Nowhere → byte_at t (skip_of t (p + 1)) ≡ 93
+    pub first_closes : first_element t p ≡ None → byte_at t (skip_of t (p + 1)) ≡ 93
     unfolding first_element
     first_closes h = go1 (eqb (byte_at t (skip_of t (p + 1))) 93) refl (sym (rw (e)) ∙ h)
       where
-        go1 : (x : Bool) → eqb (byte_at t (skip_of t (p + 1))) 93 ≡ x → value_from t (p + 1) ≡ Nowhere → byte_at t (skip_of t (p + 1)) ≡ 93
+        go1 : (x : Bool) → eqb (byte_at t (skip_of t (p + 1))) 93 ≡ x → value_from t (p + 1) ≡ None → byte_at t (skip_of t (p + 1)) ≡ 93
         go1 true i g = eqb-true (byte_at t (skip_of t (p + 1))) 93 i
         go1 false i g = nowhere (sym (found t p (p + 1) (first_value i).value) ∙ g)
 
@@ -114,22 +114,22 @@ module _ (t : List ℕ) (k : Stack) where
         let a = shut_or t (skip_of t (end_of t p)) val k (square ∷ k) (eqb (byte_at t (skip_of t (end_of t p))) 93) (eqb (byte_at t (skip_of t (end_of t p))) 44) after_on h in
         (a.0, value_from_lem t (square ∷ k) (skip_of t (end_of t p) + 1) a.1)
 
-    at_bracket : eqb (byte_at t (skip_of t (end_of t p))) 93 ≡ true → next_element t p ≡ Nowhere
+    at_bracket : eqb (byte_at t (skip_of t (end_of t p))) 93 ≡ true → next_element t p ≡ None
     unfolding next_element
     at_bracket h = rw (eqb-true (byte_at t (skip_of t (end_of t p))) 93 h)
 
-    at_comma : (eqb (byte_at t (skip_of t (end_of t p))) 44 ≡ true) → Scanned t (skip_of t (skip_of t (end_of t p) + 1)) (square ∷ k) → next_element t p ≡ At (skip_of t (skip_of t (end_of t p) + 1))
+    at_comma : (eqb (byte_at t (skip_of t (end_of t p))) 44 ≡ true) → Scanned t (skip_of t (skip_of t (end_of t p) + 1)) (square ∷ k) → next_element t p ≡ Some (skip_of t (skip_of t (end_of t p) + 1))
     unfolding next_element
     at_comma h v = rw h (found t p (skip_of t (end_of t p) + 1) v.value)
 
-    pub next_scanned : (q : ℕ) → next_element t p ≡ At q → Scanned t q (square ∷ k)
+    pub next_scanned : (q : ℕ) → next_element t p ≡ Some q → Scanned t q (square ∷ k)
     next_scanned q h = go1 (eqb (byte_at t (skip_of t (end_of t p))) 93) refl
       where
         go1 : (x : Bool) → eqb (byte_at t (skip_of t (end_of t p))) 93 ≡ x → Scanned t q (square ∷ k)
         go1 true i = somewhere (sym (at_bracket i) ∙ h)
         go1 false i = let a = comma_value i in subst (λ (x : ℕ). Scanned t x (square ∷ k)) (same_spot (sym (at_comma a.0 a.1) ∙ h)) a.1
 
-    pub next_closes : next_element t p ≡ Nowhere → byte_at t (skip_of t (end_of t p)) ≡ 93
+    pub next_closes : next_element t p ≡ None → byte_at t (skip_of t (end_of t p)) ≡ 93
     next_closes h = go1 (eqb (byte_at t (skip_of t (end_of t p))) 93) refl
       where
         go1 : (x : Bool) → eqb (byte_at t (skip_of t (end_of t p))) 93 ≡ x → byte_at t (skip_of t (end_of t p)) ≡ 93
@@ -173,7 +173,7 @@ module _ (t : List ℕ) (κ : Stack) where
       let v = value_from_lem t κ (c + 1) a.1 in
       (and_intro (eqb (byte_at t q) 34 && eqb (byte_at t c) 58) (starts_value (byte_at t (skip_of t (c + 1)))) (and_intro (eqb (byte_at t q) 34) (eqb (byte_at t c) 58) e a.0) v.value, v)
 
-  key_found : (q : ℕ) → is_member t (skip_of t q) ≡ true → key_from t q ≡ At (skip_of t q)
+  key_found : (q : ℕ) → is_member t (skip_of t q) ≡ true → key_from t q ≡ Some (skip_of t q)
   unfolding key_from
   key_found q h = rw h
 
@@ -193,23 +193,23 @@ module _ (t : List ℕ) (k : Stack) where
         let b : byte_at t q ≡ 34 = eqb-true (byte_at t q) 34 a.0 in
         keyed t (brace ∷ k) q a.0 (alike t q key0 key (brace ∷ k) l (ap (λ (x : ℕ). step key0 x (brace ∷ k)) b ∙ sym (ap (λ (x : ℕ). step key x (brace ∷ k)) b)) object_on)
 
-    no_member : eqb (byte_at t (skip_of t (p + 1))) 125 ≡ true → key_from t (p + 1) ≡ Nowhere
+    no_member : eqb (byte_at t (skip_of t (p + 1))) 125 ≡ true → key_from t (p + 1) ≡ None
     unfolding key_from is_member
     no_member h = rw (eqb-true (byte_at t (skip_of t (p + 1))) 125 h)
 
-    pub first_key_scanned : (q : ℕ) → first_key t p ≡ At q → Scanned t (value_of t q) (brace ∷ k)
+    pub first_key_scanned : (q : ℕ) → first_key t p ≡ Some q → Scanned t (value_of t q) (brace ∷ k)
     unfolding first_key
     first_key_scanned q h = go1 (eqb (byte_at t (skip_of t (p + 1))) 125) refl (sym (rw (e)) ∙ h)
       where
-        go1 : (x : Bool) → eqb (byte_at t (skip_of t (p + 1))) 125 ≡ x → key_from t (p + 1) ≡ At q → Scanned t (value_of t q) (brace ∷ k)
+        go1 : (x : Bool) → eqb (byte_at t (skip_of t (p + 1))) 125 ≡ x → key_from t (p + 1) ≡ Some q → Scanned t (value_of t q) (brace ∷ k)
         go1 true i g = somewhere (sym (no_member i) ∙ g)
         go1 false i g = let a = first_member i in subst (λ (x : ℕ). Scanned t (value_of t x) (brace ∷ k)) (same_spot (sym (key_found t (brace ∷ k) (p + 1) a.0) ∙ g)) a.1
 
-    pub first_key_closes : first_key t p ≡ Nowhere → byte_at t (skip_of t (p + 1)) ≡ 125
+    pub first_key_closes : first_key t p ≡ None → byte_at t (skip_of t (p + 1)) ≡ 125
     unfolding first_key
     first_key_closes h = go1 (eqb (byte_at t (skip_of t (p + 1))) 125) refl (sym (rw (e)) ∙ h)
       where
-        go1 : (x : Bool) → eqb (byte_at t (skip_of t (p + 1))) 125 ≡ x → key_from t (p + 1) ≡ Nowhere → byte_at t (skip_of t (p + 1)) ≡ 125
+        go1 : (x : Bool) → eqb (byte_at t (skip_of t (p + 1))) 125 ≡ x → key_from t (p + 1) ≡ None → byte_at t (skip_of t (p + 1)) ≡ 125
         go1 true i g = eqb-true (byte_at t (skip_of t (p + 1))) 125 i
         go1 false i g = nowhere (sym (key_found t (brace ∷ k) (p + 1) (first_member i).0) ∙ g)
 
@@ -235,22 +235,22 @@ module _ (t : List ℕ) (k : Stack) where
         let z = keyed t (brace ∷ k) q o.0 r in
         (a.0, z.0, z.1)
 
-    at_brace : eqb (byte_at t (skip_of t (end_of t v))) 125 ≡ true → key_behind t v ≡ Nowhere
+    at_brace : eqb (byte_at t (skip_of t (end_of t v))) 125 ≡ true → key_behind t v ≡ None
     unfolding key_behind
     at_brace h = rw (eqb-true (byte_at t (skip_of t (end_of t v))) 125 h)
 
-    at_key : eqb (byte_at t (skip_of t (end_of t v))) 44 ≡ true → is_member t (skip_of t (skip_of t (end_of t v) + 1)) ≡ true → key_behind t v ≡ At (skip_of t (skip_of t (end_of t v) + 1))
+    at_key : eqb (byte_at t (skip_of t (end_of t v))) 44 ≡ true → is_member t (skip_of t (skip_of t (end_of t v) + 1)) ≡ true → key_behind t v ≡ Some (skip_of t (skip_of t (end_of t v) + 1))
     unfolding key_behind
     at_key h i = rw h (key_found t (brace ∷ k) (skip_of t (end_of t v) + 1) i)
 
-    pub next_key_scanned : (q : ℕ) → key_behind t v ≡ At q → Scanned t (value_of t q) (brace ∷ k)
+    pub next_key_scanned : (q : ℕ) → key_behind t v ≡ Some q → Scanned t (value_of t q) (brace ∷ k)
     next_key_scanned q h = go1 (eqb (byte_at t (skip_of t (end_of t v))) 125) refl
       where
         go1 : (x : Bool) → eqb (byte_at t (skip_of t (end_of t v))) 125 ≡ x → Scanned t (value_of t q) (brace ∷ k)
         go1 true i = somewhere (sym (at_brace i) ∙ h)
         go1 false i = let a = comma_member i in subst (λ (x : ℕ). Scanned t (value_of t x) (brace ∷ k)) (same_spot (sym (at_key a.0 a.1) ∙ h)) a.2
 
-    pub next_key_closes : key_behind t v ≡ Nowhere → byte_at t (skip_of t (end_of t v)) ≡ 125
+    pub next_key_closes : key_behind t v ≡ None → byte_at t (skip_of t (end_of t v)) ≡ 125
     next_key_closes h = go1 (eqb (byte_at t (skip_of t (end_of t v))) 125) refl
       where
         go1 : (x : Bool) → eqb (byte_at t (skip_of t (end_of t v))) 125 ≡ x → byte_at t (skip_of t (end_of t v)) ≡ 125
@@ -264,5 +264,5 @@ module _ (t : List ℕ) (k : Stack) where
       (all_on (λ q. Scanned t (value_of t q) (brace ∷ k)) (key_after t) (λ x q i g. next_key_scanned (value_of t x) i q g) (suc (length t)) (first_key t p) (λ q g. first_key_scanned p e s q g))
 
 -- so is the value under a key
-pub member_scanned : (t : List ℕ) (p : ℕ) (k : Stack) → byte_at t p ≡ 123 → Scanned t p k → (w : List ℕ) (v : ℕ) → member t p w ≡ At v → Scanned t v (brace ∷ k)
+pub member_scanned : (t : List ℕ) (p : ℕ) (k : Stack) → byte_at t p ≡ 123 → Scanned t p k → (w : List ℕ) (v : ℕ) → member t p w ≡ Some v → Scanned t v (brace ∷ k)
 member_scanned t p k b s w v e = member_all t w (λ q. Scanned t q (brace ∷ k)) p (members_scanned t k p b s) v e

@@ -10,5 +10,5 @@ use Rattle.bench_calls.proofs.bench_scan.Goals as goal
 pub returns-in-Whole : goal.returns-in-Whole
 returns-in-Whole c = sym (ap (λ (x : Scan). place_of x (length c.args.text.now)) (sym c.scan.ensures ∙ c.in-Whole.is))
 
-pub returns-in-Bad : goal.returns-in-Bad
-returns-in-Bad c = sym (ap (λ (x : Scan). place_of x (length c.args.text.now)) (sym c.scan.ensures ∙ c.in-Bad.is))
+pub returns-in-Err : goal.returns-in-Err
+returns-in-Err c = sym (ap (λ (x : Scan). place_of x (length c.args.text.now)) (sym c.scan.ensures ∙ c.in-Err.is))

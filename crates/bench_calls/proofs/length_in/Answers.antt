@@ -11,5 +11,5 @@ use Rattle.bench_calls.proofs.length_in.Goals as goal
 pub returns-in-Length : goal.returns-in-Length
 returns-in-Length c = sym (ap (λ (x : Written). length_in (numbers_of_written x)) c.in-Length.is)
 
-pub returns-in-Refused : goal.returns-in-Refused
-returns-in-Refused c = length_none c.in-Refused.is
+pub returns-in-Err : goal.returns-in-Err
+returns-in-Err c = length_none c.in-Err.is

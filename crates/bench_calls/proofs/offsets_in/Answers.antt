@@ -11,5 +11,5 @@ use Rattle.bench_calls.proofs.offsets_in.Goals as goal
 pub returns-in-Given : goal.returns-in-Given
 returns-in-Given c = sym (ap (λ (x : Offsets). offsets_in (numbers_of_offsets x)) c.in-Given.is)
 
-pub returns-in-Refused : goal.returns-in-Refused
-returns-in-Refused c = offsets_none c.in-Refused.is
+pub returns-in-Err : goal.returns-in-Err
+returns-in-Err c = offsets_none c.in-Err.is

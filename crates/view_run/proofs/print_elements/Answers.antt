@@ -12,7 +12,7 @@ pub loop-spot-init : goal.loop-spot-init
 loop-spot-init c = tt
 
 pub loop-spot-smaller : goal.loop-spot-smaller
-loop-spot-smaller c = omega (arith, ap length (left_next _ c.in-At.is c.next_element-spot.ensures))
+loop-spot-smaller c = omega (arith, ap length (left_next _ c.in-Some.is c.next_element-spot.ensures))
 
 pub loop-spot-preserved : goal.loop-spot-preserved
 loop-spot-preserved c = tt

@@ -19,8 +19,8 @@ slice_bounds-write_declaration-start c = omega (arith, canonical_room _ _ _ c.ar
 pub write_declaration-requires : goal.write_declaration-requires
 write_declaration-requires c = let t = length_told _ _ _ (sym (ap numbers_of_written c.in-Length.is) ∙ c.canonical_length.ensures) in (t.0, t.1)
 
-pub returns-in-Refused : goal.returns-in-Refused
-returns-in-Refused c = canonical_refused _ _ _ _ c.in-Refused.is c.canonical_length.ensures
+pub returns-in-Err : goal.returns-in-Err
+returns-in-Err c = canonical_refused _ _ _ _ c.in-Err.is c.canonical_length.ensures
 
 pub returns-else-not-has_room : goal.returns-else-not-has_room
 returns-else-not-has_room c = canonical_written _ _ _ _ _ (sym (ap numbers_of_written c.in-Length.is) ∙ c.canonical_length.ensures) (sym c.has_room.ensures ∙ c.if-not-has_room.false) _ _ c.write_declaration.ensures

@@ -5,8 +5,8 @@ use Rattle.set.specs.Naming.{numbers_of_naming}
 use borrow.Author.Rules.{rules}
 use Rattle.dhokyurai.proofs.numbers.of_naming.Goals as goal
 
-pub returns-in-Refused : goal.returns-in-Refused
-returns-in-Refused c = c.refused.ensures ∙ sym (ap numbers_of_naming c.in-Refused.is)
+pub returns-in-Err : goal.returns-in-Err
+returns-in-Err c = c.refused.ensures ∙ sym (ap numbers_of_naming c.in-Err.is)
 
-pub returns-in-Named : goal.returns-in-Named
-returns-in-Named c = c.accepted.ensures ∙ sym (ap numbers_of_naming c.in-Named.is)
+pub returns-in-Ok : goal.returns-in-Ok
+returns-in-Ok c = c.accepted.ensures ∙ sym (ap numbers_of_naming c.in-Ok.is)

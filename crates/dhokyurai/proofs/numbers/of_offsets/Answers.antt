@@ -5,8 +5,8 @@ use Rattle.summary.specs.Calls.{numbers_of_offsets}
 use borrow.Author.Rules.{rules}
 use Rattle.dhokyurai.proofs.numbers.of_offsets.Goals as goal
 
-pub returns-in-Refused : goal.returns-in-Refused
-returns-in-Refused c = c.refused.ensures ∙ sym (ap numbers_of_offsets c.in-Refused.is)
+pub returns-in-Err : goal.returns-in-Err
+returns-in-Err c = c.refused.ensures ∙ sym (ap numbers_of_offsets c.in-Err.is)
 
 pub returns-in-Given : goal.returns-in-Given
 returns-in-Given c = sym (ap numbers_of_offsets c.in-Given.is)

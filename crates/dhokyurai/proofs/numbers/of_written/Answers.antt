@@ -5,8 +5,8 @@ use Rattle.canonical.specs.Calls.{numbers_of_written}
 use borrow.Author.Rules.{rules}
 use Rattle.dhokyurai.proofs.numbers.of_written.Goals as goal
 
-pub returns-in-Refused : goal.returns-in-Refused
-returns-in-Refused c = c.refused.ensures ∙ sym (ap numbers_of_written c.in-Refused.is)
+pub returns-in-Err : goal.returns-in-Err
+returns-in-Err c = c.refused.ensures ∙ sym (ap numbers_of_written c.in-Err.is)
 
 pub returns-in-Length : goal.returns-in-Length
 returns-in-Length c = c.accepted.ensures ∙ sym (ap numbers_of_written c.in-Length.is)

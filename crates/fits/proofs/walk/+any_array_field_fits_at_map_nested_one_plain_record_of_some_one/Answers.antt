@@ -43,13 +43,13 @@ pub array-shape_of-found-then-not-fits_at : goal.array-shape_of-found-then-not-f
 array-shape_of-found-then-not-fits_at t c = c.fits_at.auto.found ∙ c.loop-spot.invariant.1
 
 pub array-returns-then-not-fits_at : goal.array-returns-then-not-fits_at
-array-returns-then-not-fits_at t c = (then_true c.is_array.ensures c.if-not-is_array.false (each_bad _ _ c.loop-spot.invariant.2 c.in-At.is c.fits_at.ensures.0 c.if-not-fits_at.true), c.fits_at.ensures.1, c.fits_at.ensures.2)
+array-returns-then-not-fits_at t c = (then_true c.is_array.ensures c.if-not-is_array.false (each_bad _ _ c.loop-spot.invariant.2 c.in-Some.is c.fits_at.ensures.0 c.if-not-fits_at.true), c.fits_at.ensures.1, c.fits_at.ensures.2)
 
 pub array-loop-spot-smaller : goal.array-loop-spot-smaller
-array-loop-spot-smaller t c = each_less _ c.in-At.is c.next_element-spot.ensures
+array-loop-spot-smaller t c = each_less _ c.in-Some.is c.next_element-spot.ensures
 
 pub array-loop-spot-preserved : goal.array-loop-spot-preserved
-array-loop-spot-preserved t c = (c.fits_at.auto.verdicts ∙ c.loop-spot.invariant.0, c.fits_at.auto.found ∙ c.loop-spot.invariant.1, each_on _ _ c.loop-spot.invariant.2 c.in-At.is c.fits_at.ensures.0 c.if-not-fits_at.false c.next_element-spot.ensures, c.fits_at.ensures.1, c.fits_at.ensures.2)
+array-loop-spot-preserved t c = (c.fits_at.auto.verdicts ∙ c.loop-spot.invariant.0, c.fits_at.auto.found ∙ c.loop-spot.invariant.1, each_on _ _ c.loop-spot.invariant.2 c.in-Some.is c.fits_at.ensures.0 c.if-not-fits_at.false c.next_element-spot.ensures, c.fits_at.ensures.1, c.fits_at.ensures.2)
 
 pub field-returns-then-not-is_kind : goal.field-returns-then-not-is_kind
 field-returns-then-not-is_kind t c = (field_other _ _ _ _ _ _ c.requires.6 (c.is_kind.ensures _ c.kind_number.ensures) c.if-not-is_kind.true, c.requires.3, c.requires.4)
@@ -61,7 +61,7 @@ pub field-fits_at-requires : goal.field-fits_at-requires
 field-fits_at-requires t c = (omega (arith, c.decreases), (c.requires.0, c.requires.1, c.requires.2, c.requires.3, c.requires.4, omega (arith, c.requires.5)))
 
 pub field-returns : goal.field-returns
-field-returns t c = (field_value _ _ _ _ _ _ c.requires.6 (c.is_kind.ensures _ c.kind_number.ensures) c.if-not-is_kind.false c.string_of.ensures.0 c.under_word.ensures c.in-At.is _ c.type_row-own.ensures c.fits_at.ensures.0, c.fits_at.ensures.1, c.fits_at.ensures.2)
+field-returns t c = (field_value _ _ _ _ _ _ c.requires.6 (c.is_kind.ensures _ c.kind_number.ensures) c.if-not-is_kind.false c.string_of.ensures.0 c.under_word.ensures c.in-Some.is _ c.type_row-own.ensures c.fits_at.ensures.0, c.fits_at.ensures.1, c.fits_at.ensures.2)
 
 pub fits_at-returns-then-left-eq0 : goal.fits_at-returns-then-left-eq0
 fits_at-returns-then-left-eq0 t c = (fits_none _ _ _ _ _ c.if-left-eq0.true, c.requires.3, c.requires.4)
@@ -82,7 +82,7 @@ pub map-returns-in_default : goal.map-returns-in_default
 map-returns-in_default t c = (then_true c.is_object.ensures c.if-not-is_object.false (visit_end _ _ c.loop-entry.invariant.2 c.in_default.is), c.loop-entry.invariant.3, c.loop-entry.invariant.4)
 
 pub map-returns-in_default-under_key : goal.map-returns-in_default-under_key
-map-returns-in_default-under_key t c = (then_true c.is_object.ensures c.if-not-is_object.false (visit_bad _ _ c.loop-entry.invariant.2 c.in-Of.is (member_none _ _ _ _ _ c.under_key.ensures c.in_default-under_key.is) refl), c.loop-entry.invariant.3, c.loop-entry.invariant.4)
+map-returns-in_default-under_key t c = (then_true c.is_object.ensures c.if-not-is_object.false (visit_bad _ _ c.loop-entry.invariant.2 c.in-Some.is (member_none _ _ _ _ _ c.under_key.ensures c.in_default-under_key.is) refl), c.loop-entry.invariant.3, c.loop-entry.invariant.4)
 
 pub map-fits_at-requires : goal.map-fits_at-requires
 map-fits_at-requires t c = (omega (arith, c.decreases), (c.requires.0, c.requires.1, c.requires.2, c.loop-entry.invariant.3, c.loop-entry.invariant.4, omega (arith, c.requires.5)))
@@ -94,16 +94,16 @@ pub map-shape_of-found-then-not-fits_at : goal.map-shape_of-found-then-not-fits_
 map-shape_of-found-then-not-fits_at t c = c.fits_at.auto.found ∙ c.loop-entry.invariant.1
 
 pub map-returns-then-not-fits_at : goal.map-returns-then-not-fits_at
-map-returns-then-not-fits_at t c = (then_true c.is_object.ensures c.if-not-is_object.false (visit_bad _ _ c.loop-entry.invariant.2 c.in-Of.is (member_value _ _ _ _ _ c.under_key.ensures c.in-At.is c.fits_at.ensures.0) c.if-not-fits_at.true), c.fits_at.ensures.1, c.fits_at.ensures.2)
+map-returns-then-not-fits_at t c = (then_true c.is_object.ensures c.if-not-is_object.false (visit_bad _ _ c.loop-entry.invariant.2 c.in-Some.is (member_value _ _ _ _ _ c.under_key.ensures c.in-Some.is c.fits_at.ensures.0) c.if-not-fits_at.true), c.fits_at.ensures.1, c.fits_at.ensures.2)
 
 pub map-next_member-entry-requires : goal.map-next_member-entry-requires
 map-next_member-entry-requires t c = c.requires.2
 
 pub map-loop-entry-smaller : goal.map-loop-entry-smaller
-map-loop-entry-smaller t c = pass_less _ c.loop-entry.invariant.2.true_entry c.in-Of.is c.next_member-entry.ensures
+map-loop-entry-smaller t c = pass_less _ c.loop-entry.invariant.2.true_entry c.in-Some.is c.next_member-entry.ensures
 
 pub map-loop-entry-preserved : goal.map-loop-entry-preserved
-map-loop-entry-preserved t c = (c.fits_at.auto.verdicts ∙ c.loop-entry.invariant.0, c.fits_at.auto.found ∙ c.loop-entry.invariant.1, visit_on _ _ c.loop-entry.invariant.2 c.in-Of.is (member_value _ _ _ _ _ c.under_key.ensures c.in-At.is c.fits_at.ensures.0) c.if-not-fits_at.false c.next_member-entry.ensures, c.fits_at.ensures.1, c.fits_at.ensures.2)
+map-loop-entry-preserved t c = (c.fits_at.auto.verdicts ∙ c.loop-entry.invariant.0, c.fits_at.auto.found ∙ c.loop-entry.invariant.1, visit_on _ _ c.loop-entry.invariant.2 c.in-Some.is (member_value _ _ _ _ _ c.under_key.ensures c.in-Some.is c.fits_at.ensures.0) c.if-not-fits_at.false c.next_member-entry.ensures, c.fits_at.ensures.1, c.fits_at.ensures.2)
 
 pub nested-array-requires : goal.nested-array-requires
 nested-array-requires t c = (omega (arith, c.decreases), (c.requires.0, c.requires.1, c.requires.2, c.requires.3, c.requires.4, omega (arith, c.requires.5)))

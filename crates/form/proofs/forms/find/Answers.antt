@@ -14,10 +14,10 @@ pub returns-in_default : goal.returns-in_default
 returns-in_default c = find_missing _ _ _ c.loop-left.invariant c.loop-left-test.true c.is_object.ensures c.if-not-is_object.false c.members_at-members.ensures c.in_default.is c.wrong.ensures
 
 pub returns-then-is_text : goal.returns-then-is_text
-returns-then-is_text c = find_object _ _ _ c.loop-left.invariant c.loop-left-test.true c.is_object.ensures c.if-not-is_object.false c.members_at-members.ensures c.in-At.is c.is_text.ensures c.if-is_text.true c.object_form-form.ensures
+returns-then-is_text c = find_object _ _ _ c.loop-left.invariant c.loop-left-test.true c.is_object.ensures c.if-not-is_object.false c.members_at-members.ensures c.in-Some.is c.is_text.ensures c.if-is_text.true c.object_form-form.ensures
 
 pub loop-left-preserved : goal.loop-left-preserved
-loop-left-preserved c = find_nested _ _ _ c.loop-left.invariant c.loop-left-test.true c.is_object.ensures c.if-not-is_object.false c.members_at-members.ensures c.in-At.is c.is_text.ensures c.if-is_text.false
+loop-left-preserved c = find_nested _ _ _ c.loop-left.invariant c.loop-left-test.true c.is_object.ensures c.if-not-is_object.false c.members_at-members.ensures c.in-Some.is c.is_text.ensures c.if-is_text.false
 
 pub returns : goal.returns
 returns c = find_out _ _ _ c.loop-left.invariant c.loop-left-test.false c.wrong-2.ensures

@@ -29,4 +29,4 @@ pub in_namespace-requires : goal.in_namespace-requires
 in_namespace-requires c = let h = (copied c.args.text.now c.args.at c.args.word.now c.string_copy-n.ensures c.requires.0 (omega arith)).room in (c.requires.0, c.requires.1, omega arith, spaced_plain _ _ c.has_dot.ensures c.if-has_dot.false)
 
 pub returns : goal.returns
-returns c = definition_space c.args.text.now c.args.enclosing.now c.args.members c.args.at c.args.full.now (copied c.args.text.now c.args.at c.args.word.now c.string_copy-n.ensures c.requires.0 (omega arith)).front c.is_name.ensures c.if-not-is_name.false c.has_dot.ensures c.if-has_dot.false c.as_text.ensures c.in-At.is _ _ (copied c.args.text.now c.args.at c.args.word.now c.string_copy-n.ensures c.requires.0 (omega arith)).front c.in_namespace.ensures
+returns c = definition_space c.args.text.now c.args.enclosing.now c.args.members c.args.at c.args.full.now (copied c.args.text.now c.args.at c.args.word.now c.string_copy-n.ensures c.requires.0 (omega arith)).front c.is_name.ensures c.if-not-is_name.false c.has_dot.ensures c.if-has_dot.false c.as_text.ensures c.in-Some.is _ _ (copied c.args.text.now c.args.at c.args.word.now c.string_copy-n.ensures c.requires.0 (omega arith)).front c.in_namespace.ensures

@@ -7,4 +7,4 @@ pub returns-in_default : goal.returns-in_default
 returns-in_default c = plain_type _ _ c.as_text.ensures c.in_default.is
 
 pub returns : goal.returns
-returns c = logical_type_lem _ _ c.as_text.ensures c.in-At.is c.string_is.ensures
+returns c = logical_type_lem _ _ c.as_text.ensures c.in-Some.is c.string_is.ensures

@@ -13,10 +13,10 @@ pub returns-in_default : goal.returns-in_default
 returns-in_default c = texts_done _ c.loop-spot.invariant c.in_default.is
 
 pub returns-then-not-is_text : goal.returns-then-not-is_text
-returns-then-not-is_text c = texts_not _ c.loop-spot.invariant c.in-At.is c.is_text.ensures c.if-not-is_text.true
+returns-then-not-is_text c = texts_not _ c.loop-spot.invariant c.in-Some.is c.is_text.ensures c.if-not-is_text.true
 
 pub loop-spot-smaller : goal.loop-spot-smaller
-loop-spot-smaller c = visit_less _ c.in-At.is c.next_element-spot.ensures
+loop-spot-smaller c = visit_less _ c.in-Some.is c.next_element-spot.ensures
 
 pub loop-spot-preserved : goal.loop-spot-preserved
-loop-spot-preserved c = texts_turn _ c.loop-spot.invariant c.in-At.is c.is_text.ensures c.if-not-is_text.false c.next_element-spot.ensures
+loop-spot-preserved c = texts_turn _ c.loop-spot.invariant c.in-Some.is c.is_text.ensures c.if-not-is_text.false c.next_element-spot.ensures

@@ -7,7 +7,7 @@ pub returns-in_default : goal.returns-in_default
 returns-in_default c = array_none _ c.in_default.is
 
 pub returns-then-is_array : goal.returns-then-is_array
-returns-then-is_array c = array_here _ c.in-At.is c.is_array.ensures c.if-is_array.true
+returns-then-is_array c = array_here _ c.in-Some.is c.is_array.ensures c.if-is_array.true
 
 pub returns : goal.returns
-returns c = array_other _ c.in-At.is c.is_array.ensures c.if-is_array.false
+returns c = array_other _ c.in-Some.is c.is_array.ensures c.if-is_array.false

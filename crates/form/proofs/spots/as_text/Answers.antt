@@ -7,7 +7,7 @@ pub returns-in_default : goal.returns-in_default
 returns-in_default c = text_none _ c.in_default.is
 
 pub returns-then-is_text : goal.returns-then-is_text
-returns-then-is_text c = text_here _ c.in-At.is c.is_text.ensures c.if-is_text.true
+returns-then-is_text c = text_here _ c.in-Some.is c.is_text.ensures c.if-is_text.true
 
 pub returns : goal.returns
-returns c = text_other _ c.in-At.is c.is_text.ensures c.if-is_text.false
+returns c = text_other _ c.in-Some.is c.is_text.ensures c.if-is_text.false

@@ -7,7 +7,7 @@ pub returns-in_default : goal.returns-in_default
 returns-in_default c = aliases_none _ _ c.as_array.ensures c.in_default.is
 
 pub returns-then-all_texts : goal.returns-then-all_texts
-returns-then-all_texts c = aliases_here _ _ c.as_array.ensures c.in-At.is c.all_texts.ensures c.if-all_texts.true c.first_element.ensures
+returns-then-all_texts c = aliases_here _ _ c.as_array.ensures c.in-Some.is c.all_texts.ensures c.if-all_texts.true c.first_element.ensures
 
 pub returns : goal.returns
-returns c = aliases_other _ _ c.as_array.ensures c.in-At.is c.all_texts.ensures c.if-all_texts.false
+returns c = aliases_other _ _ c.as_array.ensures c.in-Some.is c.all_texts.ensures c.if-all_texts.false

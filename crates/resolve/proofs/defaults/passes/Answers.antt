@@ -8,6 +8,6 @@ pub returns-in-Whole : goal.returns-in-Whole
 unfolding passes
 returns-in-Whole c = sym (ap passes c.in-Whole.is) ∙ ap passes c.scan.ensures
 
-pub returns-in-Bad : goal.returns-in-Bad
+pub returns-in-Err : goal.returns-in-Err
 unfolding passes
-returns-in-Bad c = sym (ap passes c.in-Bad.is) ∙ ap passes c.scan.ensures
+returns-in-Err c = sym (ap passes c.in-Err.is) ∙ ap passes c.scan.ensures

@@ -13,13 +13,13 @@ pub returns-in_default : goal.returns-in_default
 returns-in_default c = fields_done _ c.loop-spot.invariant.1 c.in_default.is
 
 pub field_name-requires : goal.field_name-requires
-field_name-requires c = (c.requires.0, c.loop-spot.invariant.1.sized, fields_held _ c.loop-spot.invariant.1 c.in-At.is)
+field_name-requires c = (c.requires.0, c.loop-spot.invariant.1.sized, fields_held _ c.loop-spot.invariant.1 c.in-Some.is)
 
-pub returns-in-Bad : goal.returns-in-Bad
-returns-in-Bad c = fields_bad _ c.loop-spot.invariant.1 c.in-At.is c.field_name.ensures.0 c.in-Bad.is
+pub returns-in-Err : goal.returns-in-Err
+returns-in-Err c = fields_bad _ c.loop-spot.invariant.1 c.in-Some.is c.field_name.ensures.0 c.in-Err.is
 
 pub loop-spot-smaller : goal.loop-spot-smaller
-loop-spot-smaller c = visit_less _ c.in-At.is c.next_element-spot.ensures
+loop-spot-smaller c = visit_less _ c.in-Some.is c.next_element-spot.ensures
 
 pub loop-spot-preserved : goal.loop-spot-preserved
-loop-spot-preserved c = (ap length c.field_name.ensures.1 ∙ length_all _ _ ∙ c.loop-spot.invariant.0, fields_on _ c.loop-spot.invariant.1 c.in-At.is c.field_name.ensures.0 c.in_default-field_name.is c.field_name.ensures.1 c.next_element-spot.ensures)
+loop-spot-preserved c = (ap length c.field_name.ensures.1 ∙ length_all _ _ ∙ c.loop-spot.invariant.0, fields_on _ c.loop-spot.invariant.1 c.in-Some.is c.field_name.ensures.0 c.in_default-field_name.is c.field_name.ensures.1 c.next_element-spot.ensures)

@@ -21,7 +21,7 @@ pub enter-requires : goal.enter-requires
 enter-requires c = sized_as c.requires.1 c.loop-spot.invariant.0
 
 pub loop-spot-smaller : goal.loop-spot-smaller
-loop-spot-smaller c = visit_less _ c.in-At.is c.next_element-spot.ensures
+loop-spot-smaller c = visit_less _ c.in-Some.is c.next_element-spot.ensures
 
 pub loop-spot-preserved : goal.loop-spot-preserved
-loop-spot-preserved c = (ap length c.enter.ensures.1 ∙ length_entered _ _ ∙ c.loop-spot.invariant.0, entered_turn c.args.text.now _ c.loop-spot.invariant.1 c.in-At.is c.mark-own.ensures c.enter.ensures.1 c.next_element-spot.ensures)
+loop-spot-preserved c = (ap length c.enter.ensures.1 ∙ length_entered _ _ ∙ c.loop-spot.invariant.0, entered_turn c.args.text.now _ c.loop-spot.invariant.1 c.in-Some.is c.mark-own.ensures c.enter.ensures.1 c.next_element-spot.ensures)

@@ -13,10 +13,10 @@ pub returns-in_default : goal.returns-in_default
 returns-in_default c = all_done (Alike c.args.text.now c.args.at) _ c.loop-spot.invariant c.in_default.is ∙ ap (some (Alike c.args.text.now c.args.at)) c.first_alias-spot.ensures ∙ (among_some c.args.text.now c.args.at _)
 
 pub returns-then-strings_same : goal.returns-then-strings_same
-returns-then-strings_same c = all_yes (Alike c.args.text.now c.args.at) _ c.loop-spot.invariant c.in-At.is c.strings_same.ensures c.if-strings_same.true ∙ ap (some (Alike c.args.text.now c.args.at)) c.first_alias-spot.ensures ∙ (among_some c.args.text.now c.args.at _)
+returns-then-strings_same c = all_yes (Alike c.args.text.now c.args.at) _ c.loop-spot.invariant c.in-Some.is c.strings_same.ensures c.if-strings_same.true ∙ ap (some (Alike c.args.text.now c.args.at)) c.first_alias-spot.ensures ∙ (among_some c.args.text.now c.args.at _)
 
 pub loop-spot-smaller : goal.loop-spot-smaller
-loop-spot-smaller c = visit_less _ c.in-At.is c.next_element-spot.ensures
+loop-spot-smaller c = visit_less _ c.in-Some.is c.next_element-spot.ensures
 
 pub loop-spot-preserved : goal.loop-spot-preserved
-loop-spot-preserved c = all_on (Alike c.args.text.now c.args.at) _ c.loop-spot.invariant c.in-At.is c.strings_same.ensures c.if-strings_same.false c.next_element-spot.ensures
+loop-spot-preserved c = all_on (Alike c.args.text.now c.args.at) _ c.loop-spot.invariant c.in-Some.is c.strings_same.ensures c.if-strings_same.false c.next_element-spot.ensures

@@ -17,13 +17,13 @@ pub returns-in_default : goal.returns-in_default
 returns-in_default c = some_done (Takes c.args.text.now c.args.at) _ _ c.loop-spot.invariant c.in_default.is ∙ (taken_some c.args.text.now c.args.at _)
 
 pub returns-then-p-place : goal.returns-then-p-place
-returns-then-p-place c = some_here (Takes c.args.text.now c.args.at) _ _ c.loop-spot.invariant c.in-At.is c.if-p-place.true ∙ (taken_some c.args.text.now c.args.at _)
+returns-then-p-place c = some_here (Takes c.args.text.now c.args.at) _ _ c.loop-spot.invariant c.in-Some.is c.if-p-place.true ∙ (taken_some c.args.text.now c.args.at _)
 
 pub returns-then-is_taker : goal.returns-then-is_taker
-returns-then-is_taker c = some_found (Takes c.args.text.now c.args.at) _ _ c.loop-spot.invariant c.in-At.is c.if-p-place.false c.is_taker.ensures c.if-is_taker.true ∙ (taken_some c.args.text.now c.args.at _)
+returns-then-is_taker c = some_found (Takes c.args.text.now c.args.at) _ _ c.loop-spot.invariant c.in-Some.is c.if-p-place.false c.is_taker.ensures c.if-is_taker.true ∙ (taken_some c.args.text.now c.args.at _)
 
 pub loop-spot-smaller : goal.loop-spot-smaller
-loop-spot-smaller c = visit_less _ c.in-At.is c.next_element-spot.ensures
+loop-spot-smaller c = visit_less _ c.in-Some.is c.next_element-spot.ensures
 
 pub loop-spot-preserved : goal.loop-spot-preserved
-loop-spot-preserved c = some_turn (Takes c.args.text.now c.args.at) _ _ c.loop-spot.invariant c.in-At.is c.if-p-place.false c.is_taker.ensures c.if-is_taker.false c.next_element-spot.ensures
+loop-spot-preserved c = some_turn (Takes c.args.text.now c.args.at) _ _ c.loop-spot.invariant c.in-Some.is c.if-p-place.false c.is_taker.ensures c.if-is_taker.false c.next_element-spot.ensures

@@ -3,8 +3,8 @@
 use Rattle.rules.proofs.Listed.{name_here, name_missing}
 use Rattle.rules.proofs.fields.name_at.Goals as goal
 
-pub returns-in-At : goal.returns-in-At
-returns-in-At c = name_here c.args.text.now c.args.at c.args.name c.as_text.ensures c.in-At.is
+pub returns-in-Some : goal.returns-in-Some
+returns-in-Some c = name_here c.args.text.now c.args.at c.args.name c.as_text.ensures c.in-Some.is
 
-pub returns-in-Nowhere : goal.returns-in-Nowhere
-returns-in-Nowhere c = name_missing c.args.text.now c.args.at c.args.name c.as_text.ensures c.in-Nowhere.is
+pub returns-in-None : goal.returns-in-None
+returns-in-None c = name_missing c.args.text.now c.args.at c.args.name c.as_text.ensures c.in-None.is

@@ -13,13 +13,13 @@ pub returns-in_default : goal.returns-in_default
 returns-in_default c = going_done _ _ _ c.loop-spot.invariant.1 c.in_default.is
 
 pub enter_member-requires : goal.enter_member-requires
-enter_member-requires c = (c.requires.0, c.requires.1, c.loop-spot.invariant.1.sized, going_held _ _ _ c.loop-spot.invariant.1 c.in-At.is)
+enter_member-requires c = (c.requires.0, c.requires.1, c.loop-spot.invariant.1.sized, going_held _ _ _ c.loop-spot.invariant.1 c.in-Some.is)
 
 pub returns-then-not-enter_member : goal.returns-then-not-enter_member
-returns-then-not-enter_member c = going_stop _ _ _ c.loop-spot.invariant.1 c.in-At.is
+returns-then-not-enter_member c = going_stop _ _ _ c.loop-spot.invariant.1 c.in-Some.is
 
 pub loop-spot-smaller : goal.loop-spot-smaller
-loop-spot-smaller c = visit_less _ c.in-At.is c.next_element-spot.ensures
+loop-spot-smaller c = visit_less _ c.in-Some.is c.next_element-spot.ensures
 
 pub loop-spot-preserved : goal.loop-spot-preserved
-loop-spot-preserved c = (search rules, going_on _ _ _ c.loop-spot.invariant.1 c.in-At.is c.enter_member.ensures c.if-not-enter_member.false c.next_element-spot.ensures)
+loop-spot-preserved c = (search rules, going_on _ _ _ c.loop-spot.invariant.1 c.in-Some.is c.enter_member.ensures c.if-not-enter_member.false c.next_element-spot.ensures)

@@ -14,13 +14,13 @@ pub returns-in_default : goal.returns-in_default
 returns-in_default c = symbols_done _ c.loop-spot.invariant.1 c.in_default.is
 
 pub symbol-requires : goal.symbol-requires
-symbol-requires c = (c.requires.0, c.requires.1, c.loop-spot.invariant.1.sized, symbols_held _ c.loop-spot.invariant.1 c.in-At.is)
+symbol-requires c = (c.requires.0, c.requires.1, c.loop-spot.invariant.1.sized, symbols_held _ c.loop-spot.invariant.1 c.in-Some.is)
 
-pub returns-in-Bad : goal.returns-in-Bad
-returns-in-Bad c = symbols_bad _ c.loop-spot.invariant.1 c.in-At.is c.symbol.ensures.0 c.in-Bad.is
+pub returns-in-Err : goal.returns-in-Err
+returns-in-Err c = symbols_bad _ c.loop-spot.invariant.1 c.in-Some.is c.symbol.ensures.0 c.in-Err.is
 
 pub loop-spot-smaller : goal.loop-spot-smaller
-loop-spot-smaller c = visit_less _ c.in-At.is c.next_element-spot.ensures
+loop-spot-smaller c = visit_less _ c.in-Some.is c.next_element-spot.ensures
 
 pub loop-spot-preserved : goal.loop-spot-preserved
-loop-spot-preserved c = (ap length c.symbol.ensures.1 ∙ length_entered _ _ ∙ c.loop-spot.invariant.0, symbols_on _ c.loop-spot.invariant.1 c.in-At.is c.symbol.ensures.0 c.in_default-symbol.is c.symbol.ensures.1 c.next_element-spot.ensures)
+loop-spot-preserved c = (ap length c.symbol.ensures.1 ∙ length_entered _ _ ∙ c.loop-spot.invariant.0, symbols_on _ c.loop-spot.invariant.1 c.in-Some.is c.symbol.ensures.0 c.in_default-symbol.is c.symbol.ensures.1 c.next_element-spot.ensures)

@@ -8,8 +8,8 @@ use Rattle.rules.proofs.symbols.symbol.Goals as goal
 pub enter_symbol-twice-requires : goal.enter_symbol-twice-requires
 enter_symbol-twice-requires c = (c.requires.1, c.requires.2, c.requires.3)
 
-pub returns-in-Bad : goal.returns-in-Bad
-returns-in-Bad c = (symbol_bad c.args.text.now (before c.args.at (elements c.args.text.now c.args.array)) c.args.at c.simple_check.ensures c.in-Bad.is, c.enter_symbol-twice.ensures.1)
+pub returns-in-Err : goal.returns-in-Err
+returns-in-Err c = (symbol_bad c.args.text.now (before c.args.at (elements c.args.text.now c.args.array)) c.args.at c.simple_check.ensures c.in-Err.is, c.enter_symbol-twice.ensures.1)
 
-pub returns-in-Fine : goal.returns-in-Fine
-returns-in-Fine c = (symbol_next c.args.text.now (before c.args.at (elements c.args.text.now c.args.array)) c.args.at c.simple_check.ensures c.in-Fine.is c.enter_symbol-twice.ensures.0 c.must.ensures, c.enter_symbol-twice.ensures.1)
+pub returns-in-Ok : goal.returns-in-Ok
+returns-in-Ok c = (symbol_next c.args.text.now (before c.args.at (elements c.args.text.now c.args.array)) c.args.at c.simple_check.ensures c.in-Ok.is c.enter_symbol-twice.ensures.0 c.must.ensures, c.enter_symbol-twice.ensures.1)

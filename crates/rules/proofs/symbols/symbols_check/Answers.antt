@@ -3,8 +3,8 @@
 use Rattle.rules.proofs.Listed.{symbols_each, symbols_not}
 use Rattle.rules.proofs.symbols.symbols_check.Goals as goal
 
-pub returns-in-Bad : goal.returns-in-Bad
-returns-in-Bad c = symbols_not _ _ c.all_strings.ensures c.in-Bad.is
+pub returns-in-Err : goal.returns-in-Err
+returns-in-Err c = symbols_not _ _ c.all_strings.ensures c.in-Err.is
 
-pub returns-in-Fine : goal.returns-in-Fine
-returns-in-Fine c = symbols_each _ _ c.all_strings.ensures c.in-Fine.is c.each_new.ensures
+pub returns-in-Ok : goal.returns-in-Ok
+returns-in-Ok c = symbols_each _ _ c.all_strings.ensures c.in-Ok.is c.each_new.ensures

@@ -19,13 +19,13 @@ pub returns-in_default : goal.returns-in_default
 returns-in_default c = λ namespace. ap not (some_done (Numbered c.args.text.now c.number-number.result) _ _ c.loop-spot.invariant c.in_default.is) ∙ kind_some_new c.args.text.now namespace c.args.kind c.number-number.ensures _
 
 pub returns-then-p-member : goal.returns-then-p-member
-returns-then-p-member c = λ namespace. ap not (some_here (Numbered c.args.text.now c.number-number.result) _ _ c.loop-spot.invariant c.in-At.is c.if-p-member.true) ∙ kind_some_new c.args.text.now namespace c.args.kind c.number-number.ensures _
+returns-then-p-member c = λ namespace. ap not (some_here (Numbered c.args.text.now c.number-number.result) _ _ c.loop-spot.invariant c.in-Some.is c.if-p-member.true) ∙ kind_some_new c.args.text.now namespace c.args.kind c.number-number.ensures _
 
 pub returns-then-head_number-number : goal.returns-then-head_number-number
-returns-then-head_number-number c = λ namespace. ap not (some_found (Numbered c.args.text.now c.number-number.result) _ _ c.loop-spot.invariant c.in-At.is c.if-p-member.false refl (eq-eqb _ _ (sym (c.head_number.ensures []) ∙ c.if-head_number-number.true))) ∙ kind_some_new c.args.text.now namespace c.args.kind c.number-number.ensures _
+returns-then-head_number-number c = λ namespace. ap not (some_found (Numbered c.args.text.now c.number-number.result) _ _ c.loop-spot.invariant c.in-Some.is c.if-p-member.false refl (eq-eqb _ _ (sym (c.head_number.ensures []) ∙ c.if-head_number-number.true))) ∙ kind_some_new c.args.text.now namespace c.args.kind c.number-number.ensures _
 
 pub loop-spot-smaller : goal.loop-spot-smaller
-loop-spot-smaller c = visit_less _ c.in-At.is c.next_element-spot.ensures
+loop-spot-smaller c = visit_less _ c.in-Some.is c.next_element-spot.ensures
 
 pub loop-spot-preserved : goal.loop-spot-preserved
-loop-spot-preserved c = some_turn (Numbered c.args.text.now c.number-number.result) _ _ c.loop-spot.invariant c.in-At.is c.if-p-member.false refl (ne_eqb _ _ (λ e. c.if-head_number-number.false (c.head_number.ensures [] ∙ e))) c.next_element-spot.ensures
+loop-spot-preserved c = some_turn (Numbered c.args.text.now c.number-number.result) _ _ c.loop-spot.invariant c.in-Some.is c.if-p-member.false refl (ne_eqb _ _ (λ e. c.if-head_number-number.false (c.head_number.ensures [] ∙ e))) c.next_element-spot.ensures

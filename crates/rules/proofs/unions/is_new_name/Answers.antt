@@ -18,13 +18,13 @@ pub returns-in_default : goal.returns-in_default
 returns-in_default c = ap not (some_done (Clashes c.args.text.now c.args.namespace.now (called c.args.name.now)) _ _ c.loop-spot.invariant c.in_default.is) ∙ new_some c.args.text.now c.args.namespace.now (called c.args.name.now) _
 
 pub returns-then-p-member : goal.returns-then-p-member
-returns-then-p-member c = ap not (some_here (Clashes c.args.text.now c.args.namespace.now (called c.args.name.now)) _ _ c.loop-spot.invariant c.in-At.is c.if-p-member.true) ∙ new_some c.args.text.now c.args.namespace.now (called c.args.name.now) _
+returns-then-p-member c = ap not (some_here (Clashes c.args.text.now c.args.namespace.now (called c.args.name.now)) _ _ c.loop-spot.invariant c.in-Some.is c.if-p-member.true) ∙ new_some c.args.text.now c.args.namespace.now (called c.args.name.now) _
 
 pub returns-then-is_head : goal.returns-then-is_head
-returns-then-is_head c = ap not (some_found (Clashes c.args.text.now c.args.namespace.now (called c.args.name.now)) _ _ c.loop-spot.invariant c.in-At.is c.if-p-member.false c.is_head.ensures c.if-is_head.true) ∙ new_some c.args.text.now c.args.namespace.now (called c.args.name.now) _
+returns-then-is_head c = ap not (some_found (Clashes c.args.text.now c.args.namespace.now (called c.args.name.now)) _ _ c.loop-spot.invariant c.in-Some.is c.if-p-member.false c.is_head.ensures c.if-is_head.true) ∙ new_some c.args.text.now c.args.namespace.now (called c.args.name.now) _
 
 pub loop-spot-smaller : goal.loop-spot-smaller
-loop-spot-smaller c = visit_less _ c.in-At.is c.next_element-spot.ensures
+loop-spot-smaller c = visit_less _ c.in-Some.is c.next_element-spot.ensures
 
 pub loop-spot-preserved : goal.loop-spot-preserved
-loop-spot-preserved c = some_turn (Clashes c.args.text.now c.args.namespace.now (called c.args.name.now)) _ _ c.loop-spot.invariant c.in-At.is c.if-p-member.false c.is_head.ensures c.if-is_head.false c.next_element-spot.ensures
+loop-spot-preserved c = some_turn (Clashes c.args.text.now c.args.namespace.now (called c.args.name.now)) _ _ c.loop-spot.invariant c.in-Some.is c.if-p-member.false c.is_head.ensures c.if-is_head.false c.next_element-spot.ensures

@@ -7,10 +7,10 @@ pub returns-in_default : goal.returns-in_default
 returns-in_default c = kept_none _ c.in_default.is
 
 pub overflow_sub-stop : goal.overflow_sub-stop
-overflow_sub-stop c = (spans _ c.in-At.is c.requires.0 c.end-stop.ensures).0
+overflow_sub-stop c = (spans _ c.in-Some.is c.requires.0 c.end-stop.ensures).0
 
 pub returns-then-stop-v-gt-LONGEST : goal.returns-then-stop-v-gt-LONGEST
-returns-then-stop-v-gt-LONGEST c = kept_long _ c.in-At.is c.requires.0 c.end-stop.ensures c.if-stop-v-gt-LONGEST.true
+returns-then-stop-v-gt-LONGEST c = kept_long _ c.in-Some.is c.requires.0 c.end-stop.ensures c.if-stop-v-gt-LONGEST.true
 
 pub returns : goal.returns
-returns c = kept_short _ c.in-At.is c.requires.0 c.end-stop.ensures c.if-stop-v-gt-LONGEST.false
+returns c = kept_short _ c.in-Some.is c.requires.0 c.end-stop.ensures c.if-stop-v-gt-LONGEST.false

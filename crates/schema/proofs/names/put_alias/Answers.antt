@@ -6,13 +6,13 @@ use native.Mathlib.Omega.{arith}
 use Rattle.schema.proofs.names.put_alias.Goals as goal
 
 pub slice_bounds-put-end : goal.slice_bounds-put-end
-slice_bounds-put-end c = let h = (alias_held c.args.text.now c.args.namespace.now c.args.full.now c.args.at c.alias.ensures c.in-Kept.is (omega arith)).room in omega arith
+slice_bounds-put-end c = let h = (alias_held c.args.text.now c.args.namespace.now c.args.full.now c.args.at c.alias.ensures c.in-Ok.is (omega arith)).room in omega arith
 
 pub put-next-requires : goal.put-next-requires
-put-next-requires c = let h = (alias_held c.args.text.now c.args.namespace.now c.args.full.now c.args.at c.alias.ensures c.in-Kept.is (omega arith)).within in omega arith
+put-next-requires c = let h = (alias_held c.args.text.now c.args.namespace.now c.args.full.now c.args.at c.alias.ensures c.in-Ok.is (omega arith)).within in omega arith
 
-pub returns-in-Wrong : goal.returns-in-Wrong
-returns-in-Wrong c = alias_wrong _ _ _ _ c.alias.ensures.0 c.in-Wrong.is
+pub returns-in-Err : goal.returns-in-Err
+returns-in-Err c = alias_wrong _ _ _ _ c.alias.ensures.0 c.in-Err.is
 
-pub returns-in-Kept : goal.returns-in-Kept
-returns-in-Kept c = let h = (alias_held c.args.text.now c.args.namespace.now c.args.full.now c.args.at c.alias.ensures c.in-Kept.is (omega arith)) in alias_kept _ _ _ _ h.fine h.front c.put-next.ensures.0 c.put-next.ensures.1
+pub returns-in-Ok : goal.returns-in-Ok
+returns-in-Ok c = let h = (alias_held c.args.text.now c.args.namespace.now c.args.full.now c.args.at c.alias.ensures c.in-Ok.is (omega arith)) in alias_kept _ _ _ _ h.fine h.front c.put-next.ensures.0 c.put-next.ensures.1

@@ -13,11 +13,11 @@ loop-spot-init c = (refl, λ m r d. d)
 pub returns-in_default : goal.returns-in_default
 returns-in_default c = c.loop-spot.invariant.1 _ _ (did_eq (each_done _ _ c.in_default.is) (did_none _ _))
 
-pub returns-in-Bad : goal.returns-in-Bad
-returns-in-Bad c = c.loop-spot.invariant.1 _ _ (did_eq (each_next _ _ c.in-At.is refl) (did_stop _ _ c.put_alias.ensures c.in-Bad.is))
+pub returns-in-Err : goal.returns-in-Err
+returns-in-Err c = c.loop-spot.invariant.1 _ _ (did_eq (each_next _ _ c.in-Some.is refl) (did_stop _ _ c.put_alias.ensures c.in-Err.is))
 
 pub loop-spot-smaller : goal.loop-spot-smaller
-loop-spot-smaller c = visit_less _ c.in-At.is c.next_element-spot.ensures
+loop-spot-smaller c = visit_less _ c.in-Some.is c.next_element-spot.ensures
 
 pub loop-spot-preserved : goal.loop-spot-preserved
-loop-spot-preserved c = (search rules, λ m r d. c.loop-spot.invariant.1 m r (did_eq (each_next _ _ c.in-At.is c.next_element-spot.ensures) (did_then _ _ c.put_alias.ensures c.in-Read.is d)))
+loop-spot-preserved c = (search rules, λ m r d. c.loop-spot.invariant.1 m r (did_eq (each_next _ _ c.in-Some.is c.next_element-spot.ensures) (did_then _ _ c.put_alias.ensures c.in-Ok.is d)))

@@ -2,8 +2,7 @@
 -- Assumes nothing.
 use Rattle.schema.specs.Schema.{alias_rows}
 use Rattle.schema.specs.Did.{Did}
-use Rattle.schema.specs.Out.{each}
-use Rattle.schema.specs.declared.walked.Walked.{Walked}
+use Rattle.schema.specs.Out.{each, Walked}
 use Rattle.view.specs.Elements.{elements_at}
 use lib.ListN.{length}
 use Prim.Native.Nat.{ℕ}

@@ -8,10 +8,10 @@ use borrow.Author.Rules.{rules}
 use Rattle.schema.proofs.names.put_field_alias.Goals as goal
 
 pub put_string-next-requires : goal.put_string-next-requires
-put_string-next-requires c = let h = simple_within _ _ (sym c.simple_check.ensures ∙ c.in-Fine.is) in (omega arith, omega arith, search rules)
+put_string-next-requires c = let h = simple_within _ _ (sym c.simple_check.ensures ∙ c.in-Ok.is) in (omega arith, omega arith, search rules)
 
-pub returns-in-Bad : goal.returns-in-Bad
-returns-in-Bad c = field_alias_bad _ _ _ c.simple_check.ensures c.in-Bad.is
+pub returns-in-Err : goal.returns-in-Err
+returns-in-Err c = field_alias_bad _ _ _ c.simple_check.ensures c.in-Err.is
 
-pub returns-in-Fine : goal.returns-in-Fine
-returns-in-Fine c = field_alias_fine _ _ _ c.simple_check.ensures c.in-Fine.is c.put_string-next.ensures
+pub returns-in-Ok : goal.returns-in-Ok
+returns-in-Ok c = field_alias_fine _ _ _ c.simple_check.ensures c.in-Ok.is c.put_string-next.ensures

@@ -18,14 +18,14 @@ pub returns-in_default : goal.returns-in_default
 returns-in_default c = did_eq (ap (each _) (sym (left_start _ _ c.first_element-spot.ensures))) (c.loop-spot.invariant.2 _ _ (did_eq (each_done _ _ c.in_default.is) (did_none _ _)))
 
 pub put_string-sum-requires : goal.put_string-sum-requires
-put_string-sum-requires c = let h = within_first _ c.loop-spot.invariant.1 c.in-At.is in (omega arith, omega arith, search rules)
+put_string-sum-requires c = let h = within_first _ c.loop-spot.invariant.1 c.in-Some.is in (omega arith, omega arith, search rules)
 
 pub loop-spot-smaller : goal.loop-spot-smaller
-loop-spot-smaller c = visit_less _ c.in-At.is c.next_element-spot.ensures
+loop-spot-smaller c = visit_less _ c.in-Some.is c.next_element-spot.ensures
 
 pub loop-spot-preserved : goal.loop-spot-preserved
 loop-spot-preserved c = (
   search rules,
-  within_next _ c.loop-spot.invariant.1 c.in-At.is c.next_element-spot.ensures,
-  λ m r d. c.loop-spot.invariant.2 m r (did_eq (each_next _ _ c.in-At.is c.next_element-spot.ensures) (did_then _ _ (symbol_put _ _ _ c.put_string-sum.ensures) refl d)),
+  within_next _ c.loop-spot.invariant.1 c.in-Some.is c.next_element-spot.ensures,
+  λ m r d. c.loop-spot.invariant.2 m r (did_eq (each_next _ _ c.in-Some.is c.next_element-spot.ensures) (did_then _ _ (symbol_put _ _ _ c.put_string-sum.ensures) refl d)),
 )

@@ -3,8 +3,7 @@
 use Rattle.schema.specs.Schema.{symbol_rows}
 use Rattle.schema.proofs.Steps.{AllWithin}
 use Rattle.schema.specs.Did.{Did}
-use Rattle.schema.specs.Out.{each}
-use Rattle.schema.specs.declared.walked.Walked.{Walked}
+use Rattle.schema.specs.Out.{each, Walked}
 use Rattle.view.specs.Elements.{elements_at}
 use lib.ListN.{length}
 use Prim.Native.Nat.{ℕ}

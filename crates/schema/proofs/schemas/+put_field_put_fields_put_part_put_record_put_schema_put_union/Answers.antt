@@ -20,7 +20,7 @@ pub put_field-put_field_head-requires : goal.put_field-put_field_head-requires
 put_field-put_field_head-requires t c = (c.requires.0.short, omega arith, default_in _ _ c.members_at-members.ensures, c.requires.1)
 
 pub put_field-returns-in_default : goal.put_field-returns-in_default
-put_field-returns-in_default t c = did_eq (element_field _ _ _ _ c.is_object.ensures c.if-not-is_object.false) (field_untyped _ _ _ _ c.members_at-members.ensures c.put_field_head.ensures c.in-Read.is c.in_default.is)
+put_field-returns-in_default t c = did_eq (element_field _ _ _ _ c.is_object.ensures c.if-not-is_object.false) (field_untyped _ _ _ _ c.members_at-members.ensures c.put_field_head.ensures c.in-Ok.is c.in_default.is)
 
 pub put_field-overflow_add-depth : goal.put_field-overflow_add-depth
 put_field-overflow_add-depth t c = omega arith
@@ -28,11 +28,11 @@ put_field-overflow_add-depth t c = omega arith
 pub put_field-put_schema-requires : goal.put_field-put_schema-requires
 put_field-put_schema-requires t c = (omega arith, c.requires)
 
-pub put_field-returns-in-Bad : goal.put_field-returns-in-Bad
-put_field-returns-in-Bad t c = did_eq (element_field _ _ _ _ c.is_object.ensures c.if-not-is_object.false) (field_stop _ _ _ _ c.members_at-members.ensures c.put_field_head.ensures c.in-Bad.is)
+pub put_field-returns-in-Err : goal.put_field-returns-in-Err
+put_field-returns-in-Err t c = did_eq (element_field _ _ _ _ c.is_object.ensures c.if-not-is_object.false) (field_stop _ _ _ _ c.members_at-members.ensures c.put_field_head.ensures c.in-Err.is)
 
-pub put_field-returns-in-At : goal.put_field-returns-in-At
-put_field-returns-in-At t c = did_eq (element_field _ _ _ _ c.is_object.ensures c.if-not-is_object.false) (field_typed _ _ _ _ c.members_at-members.ensures c.put_field_head.ensures c.in-Read.is c.in-At.is c.put_schema.ensures)
+pub put_field-returns-in-Some : goal.put_field-returns-in-Some
+put_field-returns-in-Some t c = did_eq (element_field _ _ _ _ c.is_object.ensures c.if-not-is_object.false) (field_typed _ _ _ _ c.members_at-members.ensures c.put_field_head.ensures c.in-Ok.is c.in-Some.is c.put_schema.ensures)
 
 pub put_fields-loop-spot-init : goal.put_fields-loop-spot-init
 put_fields-loop-spot-init t c = (refl, (λ m r d. d), refl)
@@ -46,17 +46,17 @@ put_fields-returns-in_default t c = fields_end _ _ _ _ c.first_element-spot.ensu
 pub put_fields-put_field-requires : goal.put_fields-put_field-requires
 put_fields-put_field-requires t c = (omega arith, (c.requires.0, c.requires.1, sized_as c.requires.2 c.loop-spot.invariant.2))
 
-pub put_fields-returns-in-Bad : goal.put_fields-returns-in-Bad
-put_fields-returns-in-Bad t c = fields_bad _ _ _ _ c.first_element-spot.ensures (c.loop-spot.invariant.1 _ _ (did_eq (fields_next _ _ _ c.in-At.is refl) (did_stop _ _ c.put_field.ensures c.in-Bad.is)))
+pub put_fields-returns-in-Err : goal.put_fields-returns-in-Err
+put_fields-returns-in-Err t c = fields_bad _ _ _ _ c.first_element-spot.ensures (c.loop-spot.invariant.1 _ _ (did_eq (fields_next _ _ _ c.in-Some.is refl) (did_stop _ _ c.put_field.ensures c.in-Err.is)))
 
 pub put_fields-loop-spot-smaller : goal.put_fields-loop-spot-smaller
-put_fields-loop-spot-smaller t c = visit_less _ c.in-At.is c.next_element-spot.ensures
+put_fields-loop-spot-smaller t c = visit_less _ c.in-Some.is c.next_element-spot.ensures
 
 pub put_fields-loop-spot-preserved : goal.put_fields-loop-spot-preserved
-put_fields-loop-spot-preserved t c = (search rules, (λ m r d. c.loop-spot.invariant.1 m r (did_eq (fields_next _ _ _ c.in-At.is c.next_element-spot.ensures) (did_then _ _ c.put_field.ensures c.in-Read.is d))), search rules)
+put_fields-loop-spot-preserved t c = (search rules, (λ m r d. c.loop-spot.invariant.1 m r (did_eq (fields_next _ _ _ c.in-Some.is c.next_element-spot.ensures) (did_then _ _ c.put_field.ensures c.in-Ok.is d))), search rules)
 
-pub put_part-returns-in-Bad : goal.put_part-returns-in-Bad
-put_part-returns-in-Bad t c = part_old _ _ _ _ _ _ _ _ _ c.new_kind.ensures c.in-Bad.is
+pub put_part-returns-in-Err : goal.put_part-returns-in-Err
+put_part-returns-in-Err t c = part_old _ _ _ _ _ _ _ _ _ c.new_kind.ensures c.in-Err.is
 
 pub put_part-returns-in_default-part : goal.put_part-returns-in_default-part
 put_part-returns-in_default-part t c = part_none _ _ _ _ _ _ _ _ _ c.new_kind.ensures c.in_default.is c.in_default-part.is
@@ -71,7 +71,7 @@ pub put_part-put_schema-requires : goal.put_part-put_schema-requires
 put_part-put_schema-requires t c = (omega arith, (c.requires.0, c.requires.2, c.requires.3))
 
 pub put_part-returns : goal.put_part-returns
-put_part-returns t c = part_one _ _ _ _ _ _ _ _ _ c.new_kind.ensures c.in_default.is c.in-At.is c.put-next.ensures c.put_schema.ensures
+put_part-returns t c = part_one _ _ _ _ _ _ _ _ _ c.new_kind.ensures c.in_default.is c.in-Some.is c.put-next.ensures c.put_schema.ensures
 
 pub put_record-define-requires : goal.put_record-define-requires
 put_record-define-requires t c = (c.requires.0.short, omega arith, c.requires.1)
@@ -88,11 +88,11 @@ put_record-overflow_add-depth t c = omega arith
 pub put_record-put_fields-requires : goal.put_record-put_fields-requires
 put_record-put_fields-requires t c = (omega arith, (record { short = c.requires.0.short; deep = omega arith }, c.requires.1, c.requires.2))
 
-pub put_record-returns-in-Bad : goal.put_record-returns-in-Bad
-put_record-returns-in-Bad t c = record_bad _ _ _ _ _ _ _ c.define.ensures c.in-Bad.is
+pub put_record-returns-in-Err : goal.put_record-returns-in-Err
+put_record-returns-in-Err t c = record_bad _ _ _ _ _ _ _ c.define.ensures c.in-Err.is
 
-pub put_record-returns-in-At : goal.put_record-returns-in-At
-put_record-returns-in-At t c = record_fields _ _ _ _ _ _ _ c.define.ensures c.in-As.is c.as_array.ensures c.in-At.is c.namespace_part-own.ensures c.put_fields.ensures
+pub put_record-returns-in-Some : goal.put_record-returns-in-Some
+put_record-returns-in-Some t c = record_fields _ _ _ _ _ _ _ c.define.ensures c.in-As.is c.as_array.ensures c.in-Some.is c.namespace_part-own.ensures c.put_fields.ensures
 
 pub put_schema-returns-then-left-eq0 : goal.put_schema-returns-then-left-eq0
 put_schema-returns-then-left-eq0 t c = did_eq (schema_deep _ _ _ _ _ c.if-left-eq0.true) (did_bad _ _ _ _)
@@ -118,8 +118,8 @@ put_schema-put_enum-requires t c = (c.requires.0.short, omega arith, c.requires.
 pub put_schema-put_fixed-requires : goal.put_schema-put_fixed-requires
 put_schema-put_fixed-requires t c = (c.requires.0.short, omega arith, c.requires.1)
 
-pub put_schema-returns-in-Wrong : goal.put_schema-returns-in-Wrong
-put_schema-returns-in-Wrong t c = did_eq (schema_wrong _ _ _ _ _ c.if-left-eq0.false c.find-found.ensures c.in-Wrong.is) (did_bad _ _ _ _)
+pub put_schema-returns-in-Err : goal.put_schema-returns-in-Err
+put_schema-returns-in-Err t c = did_eq (schema_wrong _ _ _ _ _ c.if-left-eq0.false c.find-found.ensures c.in-Err.is) (did_bad _ _ _ _)
 
 pub put_schema-returns-in-Word : goal.put_schema-returns-in-Word
 put_schema-returns-in-Word t c = did_eq (schema_word _ _ _ _ _ c.if-left-eq0.false c.find-found.ensures c.in-Word.is) c.put_word.ensures
@@ -142,8 +142,8 @@ put_schema-returns-in-EnumOf t c = did_eq (schema_enum _ _ _ _ _ c.if-left-eq0.f
 pub put_schema-returns-in-FixedOf : goal.put_schema-returns-in-FixedOf
 put_schema-returns-in-FixedOf t c = did_eq (schema_fixed _ _ _ _ _ c.if-left-eq0.false c.find-found.ensures c.in-FixedOf.is) c.put_fixed.ensures
 
-pub put_union-returns-in-Bad : goal.put_union-returns-in-Bad
-put_union-returns-in-Bad t c = union_old _ _ _ _ _ _ c.new_kind.ensures c.in-Bad.is
+pub put_union-returns-in-Err : goal.put_union-returns-in-Err
+put_union-returns-in-Err t c = union_old _ _ _ _ _ _ c.new_kind.ensures c.in-Err.is
 
 pub put_union-surely_new-sure-requires : goal.put_union-surely_new-sure-requires
 put_union-surely_new-sure-requires t c = (c.requires.0.short, c.requires.2, c.requires.3)
@@ -163,17 +163,17 @@ put_union-overflow_add-depth t c = omega arith
 pub put_union-put_schema-requires : goal.put_union-put_schema-requires
 put_union-put_schema-requires t c = (omega arith, (c.requires.0, c.requires.2, sized_as c.requires.3 (c.loop-spot.invariant.3 ∙ c.surely_new-sure.auto.table)))
 
-pub put_union-shape_of-table-in-Bad-put_schema : goal.put_union-shape_of-table-in-Bad-put_schema
-put_union-shape_of-table-in-Bad-put_schema t c = c.put_schema.auto.table ∙ c.loop-spot.invariant.3 ∙ c.surely_new-sure.auto.table
+pub put_union-shape_of-table-in-Err-put_schema : goal.put_union-shape_of-table-in-Err-put_schema
+put_union-shape_of-table-in-Err-put_schema t c = c.put_schema.auto.table ∙ c.loop-spot.invariant.3 ∙ c.surely_new-sure.auto.table
 
-pub put_union-returns-in-Bad-put_schema : goal.put_union-returns-in-Bad-put_schema
-put_union-returns-in-Bad-put_schema t c = union_rows_lem _ _ _ _ _ _ c.new_kind.ensures c.in_default.is c.put-sum.ensures c.first_element-spot.ensures (c.loop-spot.invariant.1 _ _ (did_eq (each_next _ _ c.in-At.is refl) (did_stop _ _ (did_eq (member_is c.args.text.now c.args.namespace.now c.args.at _ c.args.left _ _ c.stands-member.ensures (sure_here _ _ _ _ c.loop-spot.invariant.2 c.in-At.is)) c.put_schema.ensures) c.in-Bad-put_schema.is)))
+pub put_union-returns-in-Err-put_schema : goal.put_union-returns-in-Err-put_schema
+put_union-returns-in-Err-put_schema t c = union_rows_lem _ _ _ _ _ _ c.new_kind.ensures c.in_default.is c.put-sum.ensures c.first_element-spot.ensures (c.loop-spot.invariant.1 _ _ (did_eq (each_next _ _ c.in-Some.is refl) (did_stop _ _ (did_eq (member_is c.args.text.now c.args.namespace.now c.args.at _ c.args.left _ _ c.stands-member.ensures (sure_here _ _ _ _ c.loop-spot.invariant.2 c.in-Some.is)) c.put_schema.ensures) c.in-Err-put_schema.is)))
 
 pub put_union-next_element-spot-requires : goal.put_union-next_element-spot-requires
 put_union-next_element-spot-requires t c = c.requires.2
 
 pub put_union-loop-spot-smaller : goal.put_union-loop-spot-smaller
-put_union-loop-spot-smaller t c = visit_less _ c.in-At.is c.next_element-spot.ensures
+put_union-loop-spot-smaller t c = visit_less _ c.in-Some.is c.next_element-spot.ensures
 
 pub put_union-loop-spot-preserved : goal.put_union-loop-spot-preserved
-put_union-loop-spot-preserved t c = (search rules, (λ m r d. c.loop-spot.invariant.1 m r (did_eq (each_next _ _ c.in-At.is c.next_element-spot.ensures) (did_then _ _ (did_eq (member_is c.args.text.now c.args.namespace.now c.args.at _ c.args.left _ _ c.stands-member.ensures (sure_here _ _ _ _ c.loop-spot.invariant.2 c.in-At.is)) c.put_schema.ensures) c.in-Read.is d))), sure_next _ _ _ _ c.loop-spot.invariant.2 c.in-At.is c.next_element-spot.ensures, c.put_schema.auto.table ∙ c.loop-spot.invariant.3)
+put_union-loop-spot-preserved t c = (search rules, (λ m r d. c.loop-spot.invariant.1 m r (did_eq (each_next _ _ c.in-Some.is c.next_element-spot.ensures) (did_then _ _ (did_eq (member_is c.args.text.now c.args.namespace.now c.args.at _ c.args.left _ _ c.stands-member.ensures (sure_here _ _ _ _ c.loop-spot.invariant.2 c.in-Some.is)) c.put_schema.ensures) c.in-Ok.is d))), sure_next _ _ _ _ c.loop-spot.invariant.2 c.in-Some.is c.next_element-spot.ensures, c.put_schema.auto.table ∙ c.loop-spot.invariant.3)

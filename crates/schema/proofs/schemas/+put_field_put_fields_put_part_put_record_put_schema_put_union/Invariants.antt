@@ -4,8 +4,7 @@ use Rattle.schema.proofs.Nested.{member}
 use Rattle.rules.specs.Members.{SureOf}
 use Rattle.schema.specs.Did.{Did}
 use Rattle.schema.specs.Schema.{within, field_rows, schema_of}
-use Rattle.schema.specs.Out.{each}
-use Rattle.schema.specs.declared.walked.Walked.{Walked}
+use Rattle.schema.specs.Out.{each, Walked}
 use Rattle.form.specs.Spots.{objects_among}
 use Rattle.view.specs.Elements.{elements_at}
 use lib.ListN.{length}

@@ -10,13 +10,13 @@ pub counts-sum-requires : goal.counts-sum-requires
 counts-sum-requires c = counts_asks _ c.requires.0
 
 pub misfit-defaults-requires : goal.misfit-defaults-requires
-misfit-defaults-requires c = let d = misfit_asks _ _ _ _ _ _ _ c.join-a.ensures c.requires.0 c.requires.1 _ c.counts-sum.ensures c.in-Done.is c.requires.2 in (d.0, omega (arith, d.1))
+misfit-defaults-requires c = let d = misfit_asks _ _ _ _ _ _ _ c.join-a.ensures c.requires.0 c.requires.1 _ c.counts-sum.ensures c.in-Ok.is c.requires.2 in (d.0, omega (arith, d.1))
 
-pub returns-in-Refused : goal.returns-in-Refused
-returns-in-Refused c = λ rows d. ended_by c.in-Refused.is (append_refused _ _ _ _ _ _ _ c.join-a.ensures c.in-Refused.is rows d)
+pub returns-in-Err : goal.returns-in-Err
+returns-in-Err c = λ rows d. ended_by c.in-Err.is (append_refused _ _ _ _ _ _ _ c.join-a.ensures c.in-Err.is rows d)
 
 pub returns-in-Faulty : goal.returns-in-Faulty
-returns-in-Faulty c = λ rows d. append_misfit _ _ _ _ _ _ _ c.join-a.ensures c.requires.0 c.requires.1 _ c.counts-sum.ensures c.in-Done.is _ c.misfit-defaults.ensures c.in-Faulty.is rows d c.placed.ensures
+returns-in-Faulty c = λ rows d. append_misfit _ _ _ _ _ _ _ c.join-a.ensures c.requires.0 c.requires.1 _ c.counts-sum.ensures c.in-Ok.is _ c.misfit-defaults.ensures c.in-Faulty.is rows d c.placed.ensures
 
 pub returns-in-Resolved : goal.returns-in-Resolved
-returns-in-Resolved c = append_done _ _ _ _ _ _ _ c.join-a.ensures c.requires.0 c.requires.1 _ c.counts-sum.ensures c.in-Done.is _ c.misfit-defaults.ensures c.in-Resolved.is
+returns-in-Resolved c = append_done _ _ _ _ _ _ _ c.join-a.ensures c.requires.0 c.requires.1 _ c.counts-sum.ensures c.in-Ok.is _ c.misfit-defaults.ensures c.in-Resolved.is

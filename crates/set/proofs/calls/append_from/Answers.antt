@@ -34,14 +34,14 @@ overflow_sub-bytes c = bytes_order _ c.requires.1 c.loop-i.i (omega (arith, c.de
 pub append-a-requires : goal.append-a-requires
 append-a-requires c = rest_asks _ c.requires.1 c.loop-i.i (omega (arith, c.declarations-n.ensures, c.loop-i-test.true, c.requires.3)) _ c.rows_of-rows.ensures.0 _ _ _ c.loop-i.invariant.1 _ c.strings_before.ensures _ c.strings_before-in-loop-i.ensures
 
-pub shape_of-out-in-Refused : goal.shape_of-out-in-Refused
-shape_of-out-in-Refused c = c.append-a.auto.out ∙ is_long _ c.loop-i.invariant.1.well ∙ sym (is_long _ c.requires.0)
+pub shape_of-out-in-Err : goal.shape_of-out-in-Err
+shape_of-out-in-Err c = c.append-a.auto.out ∙ is_long _ c.loop-i.invariant.1.well ∙ sym (is_long _ c.requires.0)
 
-pub returns-in-Refused : goal.returns-in-Refused
-returns-in-Refused c = rest_refused _ c.requires.1 c.loop-i.i (omega (arith, c.declarations-n.ensures, c.loop-i-test.true, c.requires.3)) _ c.rows_of-rows.ensures.0 _ _ _ c.loop-i.invariant.1 _ c.strings_before.ensures _ c.strings_before-in-loop-i.ensures _ _ c.append-a.ensures _ c.in-Refused.is _
+pub returns-in-Err : goal.returns-in-Err
+returns-in-Err c = rest_refused _ c.requires.1 c.loop-i.i (omega (arith, c.declarations-n.ensures, c.loop-i-test.true, c.requires.3)) _ c.rows_of-rows.ensures.0 _ _ _ c.loop-i.invariant.1 _ c.strings_before.ensures _ c.strings_before-in-loop-i.ensures _ _ c.append-a.ensures _ c.in-Err.is _
 
 pub loop-i-preserved : goal.loop-i-preserved
-loop-i-preserved c = (search rules, rest_more _ c.requires.1 c.loop-i.i (omega (arith, c.declarations-n.ensures, c.loop-i-test.true, c.requires.3)) _ c.rows_of-rows.ensures.0 _ _ _ c.loop-i.invariant.1 _ c.strings_before.ensures _ c.strings_before-in-loop-i.ensures _ _ c.append-a.ensures _ c.in-Done.is)
+loop-i-preserved c = (search rules, rest_more _ c.requires.1 c.loop-i.i (omega (arith, c.declarations-n.ensures, c.loop-i-test.true, c.requires.3)) _ c.rows_of-rows.ensures.0 _ _ _ c.loop-i.invariant.1 _ c.strings_before.ensures _ c.strings_before-in-loop-i.ensures _ _ c.append-a.ensures _ c.in-Ok.is)
 
 pub counts-requires : goal.counts-requires
 counts-requires c = counts_asks _ c.loop-i.invariant.1.well

@@ -21,10 +21,10 @@ pub read_text-read-requires : goal.read_text-read-requires
 read_text-read-requires c = refl
 
 pub put_rows-requires : goal.put_rows-requires
-put_rows-requires c = put_asks _ _ _ (sym c.well_formed-2.ensures ∙ c.if-not-well_formed.false) _ c.declarations.ensures c.if-declarations-place.false c.if-place-ge-DECLARATIONS.false c.read_text-read.ensures _ c.in-Read.is
+put_rows-requires c = put_asks _ _ _ (sym c.well_formed-2.ensures ∙ c.if-not-well_formed.false) _ c.declarations.ensures c.if-declarations-place.false c.if-place-ge-DECLARATIONS.false c.read_text-read.ensures _ c.in-Ok.is
 
-pub returns-in-Bad : goal.returns-in-Bad
-returns-in-Bad c = put_bad _ _ _ (sym c.well_formed-2.ensures ∙ c.if-not-well_formed.false) _ c.declarations.ensures c.if-declarations-place.false c.if-place-ge-DECLARATIONS.false c.read_text-read.ensures c.in-Bad.is c.placed.ensures
+pub returns-in-Err : goal.returns-in-Err
+returns-in-Err c = put_bad _ _ _ (sym c.well_formed-2.ensures ∙ c.if-not-well_formed.false) _ c.declarations.ensures c.if-declarations-place.false c.if-place-ge-DECLARATIONS.false c.read_text-read.ensures c.in-Err.is c.placed.ensures
 
-pub returns-in-Read : goal.returns-in-Read
-returns-in-Read c = put_read _ _ _ (sym c.well_formed-2.ensures ∙ c.if-not-well_formed.false) _ c.declarations.ensures c.if-declarations-place.false c.if-place-ge-DECLARATIONS.false c.read_text-read.ensures _ c.in-Read.is c.put_rows.ensures
+pub returns-in-Ok : goal.returns-in-Ok
+returns-in-Ok c = put_read _ _ _ (sym c.well_formed-2.ensures ∙ c.if-not-well_formed.false) _ c.declarations.ensures c.if-declarations-place.false c.if-place-ge-DECLARATIONS.false c.read_text-read.ensures _ c.in-Ok.is c.put_rows.ensures

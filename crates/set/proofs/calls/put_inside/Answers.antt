@@ -17,23 +17,23 @@ slice_bounds-append-end c = sym (is_long _ (before_well _ c.requires.0 _ c.requi
 pub append-a-requires : goal.append-a-requires
 append-a-requires c = draft_asks _ c.requires.0 _ c.requires.1 _ c.copy_before.ensures _ _ _ c.requires.2
 
-pub returns-in-Refused : goal.returns-in-Refused
-returns-in-Refused c = inside_first _ c.requires.0 _ c.requires.1 _ c.copy_before.ensures _ _ _ _ _ c.append-a.ensures _ c.in-Refused.is
+pub returns-in-Err : goal.returns-in-Err
+returns-in-Err c = inside_first _ c.requires.0 _ c.requires.1 _ c.copy_before.ensures _ _ _ _ _ c.append-a.ensures _ c.in-Err.is
 
 pub slice_bounds-append_from-end : goal.slice_bounds-append_from-end
-slice_bounds-append_from-end c = sym (is_long _ (behind_asks _ c.requires.0 _ c.requires.1 _ c.copy_before.ensures _ _ _ _ _ c.append-a.ensures _ c.in-Done.is c.requires.2).0)
+slice_bounds-append_from-end c = sym (is_long _ (behind_asks _ c.requires.0 _ c.requires.1 _ c.copy_before.ensures _ _ _ _ _ c.append-a.ensures _ c.in-Ok.is c.requires.2).0)
 
 pub overflow_add-place : goal.overflow_add-place
 overflow_add-place c = omega (arith, place_few _ c.requires.0 _ c.requires.1)
 
 pub append_from-b-requires : goal.append_from-b-requires
-append_from-b-requires c = behind_asks _ c.requires.0 _ c.requires.1 _ c.copy_before.ensures _ _ _ _ _ c.append-a.ensures _ c.in-Done.is c.requires.2
+append_from-b-requires c = behind_asks _ c.requires.0 _ c.requires.1 _ c.copy_before.ensures _ _ _ _ _ c.append-a.ensures _ c.in-Ok.is c.requires.2
 
 pub slice_bounds-settle-end : goal.slice_bounds-settle-end
-slice_bounds-settle-end c = sym (c.append_from-b.auto.out ∙ is_long _ (behind_asks _ c.requires.0 _ c.requires.1 _ c.copy_before.ensures _ _ _ _ _ c.append-a.ensures _ c.in-Done.is c.requires.2).0)
+slice_bounds-settle-end c = sym (c.append_from-b.auto.out ∙ is_long _ (behind_asks _ c.requires.0 _ c.requires.1 _ c.copy_before.ensures _ _ _ _ _ c.append-a.ensures _ c.in-Ok.is c.requires.2).0)
 
 pub settle-requires : goal.settle-requires
-settle-requires c = is_long _ c.requires.0 ∙ sym (c.append_from-b.auto.out ∙ is_long _ (behind_asks _ c.requires.0 _ c.requires.1 _ c.copy_before.ensures _ _ _ _ _ c.append-a.ensures _ c.in-Done.is c.requires.2).0)
+settle-requires c = is_long _ c.requires.0 ∙ sym (c.append_from-b.auto.out ∙ is_long _ (behind_asks _ c.requires.0 _ c.requires.1 _ c.copy_before.ensures _ _ _ _ _ c.append-a.ensures _ c.in-Ok.is c.requires.2).0)
 
 pub returns : goal.returns
-returns c = inside_settled _ c.requires.0 _ c.requires.1 _ c.copy_before.ensures _ _ _ _ _ c.append-a.ensures _ c.in-Done.is _ c.append_from-b.ensures c.settle.ensures
+returns c = inside_settled _ c.requires.0 _ c.requires.1 _ c.copy_before.ensures _ _ _ _ _ c.append-a.ensures _ c.in-Ok.is _ c.append_from-b.ensures c.settle.ensures

@@ -11,7 +11,7 @@ pub returns-in_default : goal.returns-in_default
 returns-in_default c = seek_end _ _ _ c.loop-entry.invariant c.in_default.is
 
 pub loop-entry-smaller : goal.loop-entry-smaller
-loop-entry-smaller c = pass_less _ c.loop-entry.invariant.true_entry c.in-Of.is c.next_member-entry.ensures
+loop-entry-smaller c = pass_less _ c.loop-entry.invariant.true_entry c.in-Some.is c.next_member-entry.ensures
 
 pub loop-entry-preserved : goal.loop-entry-preserved
-loop-entry-preserved c = seek_turn _ _ _ c.loop-entry.invariant c.in-Of.is c.string_is-is.ensures c.found_if-found.ensures c.next_member-entry.ensures
+loop-entry-preserved c = seek_turn _ _ _ c.loop-entry.invariant c.in-Some.is c.string_is-is.ensures c.found_if-found.ensures c.next_member-entry.ensures

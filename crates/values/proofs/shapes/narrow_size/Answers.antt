@@ -18,19 +18,19 @@ pub returns-in_default : goal.returns-in_default
 returns-in_default c = narrow_all _ _ (narrow_end c.next_byte.ensures c.in_default.is c.loop-b.invariant.1) (characters_end c.next_byte.ensures c.in_default.is _ c.loop-b.invariant.2)
 
 pub returns-then-b-ge196 : goal.returns-then-b-ge196
-returns-then-b-ge196 c = narrow_not _ (narrow_stop c.next_byte.ensures c.in-Byte.is c.if-b-ge196.true c.loop-b.invariant.1)
+returns-then-b-ge196 c = narrow_not _ (narrow_stop c.next_byte.ensures c.in-Some.is c.if-b-ge196.true c.loop-b.invariant.1)
 
 pub loop-b-smaller-then-goes_on : goal.loop-b-smaller-then-goes_on
-loop-b-smaller-then-goes_on c = left_less c.next_byte.ensures c.in-Byte.is
+loop-b-smaller-then-goes_on c = left_less c.next_byte.ensures c.in-Some.is
 
 pub loop-b-preserved-then-goes_on : goal.loop-b-preserved-then-goes_on
-loop-b-preserved-then-goes_on c = (read_within c.next_byte.ensures c.in-Byte.is, narrow_on c.next_byte.ensures c.in-Byte.is c.if-b-ge196.false c.loop-b.invariant.1, characters_same c.next_byte.ensures c.in-Byte.is c.goes_on.ensures _ c.loop-b.invariant.2 c.if-goes_on.true)
+loop-b-preserved-then-goes_on c = (read_within c.next_byte.ensures c.in-Some.is, narrow_on c.next_byte.ensures c.in-Some.is c.if-b-ge196.false c.loop-b.invariant.1, characters_same c.next_byte.ensures c.in-Some.is c.goes_on.ensures _ c.loop-b.invariant.2 c.if-goes_on.true)
 
 pub overflow_add-n : goal.overflow_add-n
-overflow_add-n c = omega (arith, characters_more c.next_byte.ensures c.in-Byte.is c.goes_on.ensures _ c.loop-b.invariant.2 c.if-goes_on.false, characters_bound c.args.text.now c.args.at)
+overflow_add-n c = omega (arith, characters_more c.next_byte.ensures c.in-Some.is c.goes_on.ensures _ c.loop-b.invariant.2 c.if-goes_on.false, characters_bound c.args.text.now c.args.at)
 
 pub loop-b-smaller : goal.loop-b-smaller
-loop-b-smaller c = left_less c.next_byte.ensures c.in-Byte.is
+loop-b-smaller c = left_less c.next_byte.ensures c.in-Some.is
 
 pub loop-b-preserved : goal.loop-b-preserved
-loop-b-preserved c = (read_within c.next_byte.ensures c.in-Byte.is, narrow_on c.next_byte.ensures c.in-Byte.is c.if-b-ge196.false c.loop-b.invariant.1, characters_more c.next_byte.ensures c.in-Byte.is c.goes_on.ensures _ c.loop-b.invariant.2 c.if-goes_on.false)
+loop-b-preserved c = (read_within c.next_byte.ensures c.in-Some.is, narrow_on c.next_byte.ensures c.in-Some.is c.if-b-ge196.false c.loop-b.invariant.1, characters_more c.next_byte.ensures c.in-Some.is c.goes_on.ensures _ c.loop-b.invariant.2 c.if-goes_on.false)

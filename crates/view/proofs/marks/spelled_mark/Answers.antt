@@ -25,14 +25,14 @@ overflow_add-m c = omega arith
 pub more-requires : goal.more-requires
 more-requires c = omega arith
 
-pub returns-in-End : goal.returns-in-End
-returns-in-End c = mark_end _ _ _ c.loop-b.invariant.2 (read_end c.next_byte.ensures c.in-End.is) c.more.ensures
+pub returns : goal.returns
+returns c = mark_end _ _ _ c.loop-b.invariant.2 (read_end c.next_byte.ensures c.in_default.is) c.more.ensures
 
 pub with_byte-m-requires : goal.with_byte-m-requires
 with_byte-m-requires c = c.loop-b.invariant.1
 
 pub loop-b-smaller : goal.loop-b-smaller
-loop-b-smaller c = let z = ap length (read_byte c.next_byte.ensures c.in-Byte.is) in omega arith
+loop-b-smaller c = let z = ap length (read_byte c.next_byte.ensures c.in-Some.is) in omega arith
 
 pub loop-b-preserved : goal.loop-b-preserved
-loop-b-preserved c = (read_within c.next_byte.ensures c.in-Byte.is, c.with_byte-m.ensures.1, mark_turn _ _ _ c.loop-b.invariant.2 (read_byte c.next_byte.ensures c.in-Byte.is) c.with_byte-m.ensures.0)
+loop-b-preserved c = (read_within c.next_byte.ensures c.in-Some.is, c.with_byte-m.ensures.1, mark_turn _ _ _ c.loop-b.invariant.2 (read_byte c.next_byte.ensures c.in-Some.is) c.with_byte-m.ensures.0)

@@ -1,8 +1,8 @@
 -- `view::members::members_at` meets its contract: what will be found is the answer.
 -- Assumes nothing.
+use Rattle.std.specs.Prelude.{None}
 use mathlib.Core.Path.{refl}
 use native.Mathlib.Omega.{arith}
-use Rattle.view.specs.declared.space.Spot.TheVariants.{At}
 use Rattle.view.proofs.OnePass.{pass_start, pass_turn, pass_less, pass_end, collected, number_few}
 use Rattle.view.proofs.members.members_at.Goals as goal
 
@@ -48,8 +48,8 @@ bounds-found-11 c = omega arith
 pub bounds-found-12 : goal.bounds-found-12
 bounds-found-12 c = omega arith
 
-pub returns-in-Last : goal.returns-in-Last
-returns-in-Last c = collected _ _ c.loop-entry.found (pass_end _ _ c.loop-entry.invariant c.in-Last.is) (At 0)
+pub returns : goal.returns
+returns c = collected _ _ c.loop-entry.found (pass_end _ _ c.loop-entry.invariant c.in_default.is) None
 
 pub offset_bounds-found-n : goal.offset_bounds-found-n
 offset_bounds-found-n c = let h = number_few _ c.key_number-n.ensures in omega arith
@@ -58,7 +58,7 @@ pub bounds-found-n : goal.bounds-found-n
 bounds-found-n c = let k = number_few _ c.key_number-n.ensures in omega arith
 
 pub loop-entry-smaller : goal.loop-entry-smaller
-loop-entry-smaller c = pass_less _ c.loop-entry.invariant.true_entry c.in-Of.is c.next_member-entry.ensures
+loop-entry-smaller c = pass_less _ c.loop-entry.invariant.true_entry c.in-Some.is c.next_member-entry.ensures
 
 pub loop-entry-preserved : goal.loop-entry-preserved
-loop-entry-preserved c = pass_turn _ _ c.loop-entry.invariant c.in-Of.is c.key_number-n.ensures refl c.next_member-entry.ensures
+loop-entry-preserved c = pass_turn _ _ c.loop-entry.invariant c.in-Some.is c.key_number-n.ensures refl c.next_member-entry.ensures

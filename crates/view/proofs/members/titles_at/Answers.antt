@@ -7,11 +7,11 @@ use Rattle.view.proofs.members.titles_at.Goals as goal
 pub loop-entry-init : goal.loop-entry-init
 loop-entry-init c = titling_start _ _ c.first_member-entry.ensures
 
-pub returns-in-Last : goal.returns-in-Last
-returns-in-Last c = titling_end _ _ c.loop-entry.invariant c.in-Last.is
+pub returns : goal.returns
+returns c = titling_end _ _ c.loop-entry.invariant c.in_default.is
 
 pub loop-entry-smaller : goal.loop-entry-smaller
-loop-entry-smaller c = pass_less _ c.loop-entry.invariant.true_entry c.in-Of.is c.next_member-entry.ensures
+loop-entry-smaller c = pass_less _ c.loop-entry.invariant.true_entry c.in-Some.is c.next_member-entry.ensures
 
 pub loop-entry-preserved : goal.loop-entry-preserved
-loop-entry-preserved c = titling_turn _ _ c.loop-entry.invariant c.in-Of.is c.title_number-n.ensures c.found_if-name.ensures c.found_if-aliases.ensures c.next_member-entry.ensures
+loop-entry-preserved c = titling_turn _ _ c.loop-entry.invariant c.in-Some.is c.title_number-n.ensures c.found_if-name.ensures c.found_if-aliases.ensures c.next_member-entry.ensures

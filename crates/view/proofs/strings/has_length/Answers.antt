@@ -12,18 +12,18 @@ loop-next-init c = (c.opening-c.ensures.1, omega (arith, ap length c.opening-c.e
 pub next_byte-requires : goal.next_byte-requires
 next_byte-requires c = c.loop-next.invariant.0
 
-pub returns-in_default : goal.returns-in_default
-returns-in_default c = count_end _ _ _ _ c.loop-next.invariant.1 (ap length (read_end c.next_byte.ensures c.in_default.is))
+pub returns : goal.returns
+returns c = count_end _ _ _ _ c.loop-next.invariant.1 (ap length (read_end c.next_byte.ensures c.in_default.is))
 
 pub returns-then-more-eq0 : goal.returns-then-more-eq0
 returns-then-more-eq0 c =
-    let z = ap length (read_byte c.next_byte.ensures c.in-Byte.is) in
+    let z = ap length (read_byte c.next_byte.ensures c.in-Some.is) in
     count_past _ _ _ _ c.loop-next.invariant.1 (omega arith) c.if-more-eq0.true
 
 pub loop-next-smaller : goal.loop-next-smaller
-loop-next-smaller c = let z = ap length (read_byte c.next_byte.ensures c.in-Byte.is) in omega arith
+loop-next-smaller c = let z = ap length (read_byte c.next_byte.ensures c.in-Some.is) in omega arith
 
 pub loop-next-preserved : goal.loop-next-preserved
 loop-next-preserved c =
-    let z = ap length (read_byte c.next_byte.ensures c.in-Byte.is) in
-    (read_within c.next_byte.ensures c.in-Byte.is, omega (arith, c.loop-next.invariant.1))
+    let z = ap length (read_byte c.next_byte.ensures c.in-Some.is) in
+    (read_within c.next_byte.ensures c.in-Some.is, omega (arith, c.loop-next.invariant.1))

@@ -8,8 +8,8 @@ use Rattle.view.proofs.strings.next_byte.Goals as goal
 pub returns-then-is_stop : goal.returns-then-is_stop
 returns-then-is_stop c = read_stop _ c.args.c c.byte_at-b.ensures (sym c.is_stop.ensures ∙ c.if-is_stop.true)
 
-pub overflow_add-result : goal.overflow_add-result
-overflow_add-result c = let h = stop_in _ _ _ c.byte_at-b.ensures (sym c.is_stop.ensures ∙ c.if-is_stop.false) in omega arith
+pub overflow_add-next : goal.overflow_add-next
+overflow_add-next c = let h = stop_in _ _ _ c.byte_at-b.ensures (sym c.is_stop.ensures ∙ c.if-is_stop.false) in omega arith
 
 pub returns-then-b-ne92 : goal.returns-then-b-ne92
 returns-then-b-ne92 c = read_plain _ c.args.c c.byte_at-b.ensures (sym c.is_stop.ensures ∙ c.if-is_stop.false) c.requires c.if-b-ne92.true

@@ -15,14 +15,14 @@ loop-b-init c = (c.opening-c.ensures.1, refl, omega (arith, ap length c.opening-
 pub next_byte-requires : goal.next_byte-requires
 next_byte-requires c = c.loop-b.invariant.0
 
-pub returns-in-End : goal.returns-in-End
-returns-in-End c = let e = read_end c.next_byte.ensures c.in-End.is in let z = ap length e in (omega (arith, c.loop-b.invariant.2), copy_end _ _ _ _ c.loop-b.invariant.3 e)
+pub returns : goal.returns
+returns c = let e = read_end c.next_byte.ensures c.in_default.is in let z = ap length e in (omega (arith, c.loop-b.invariant.2), copy_end _ _ _ _ c.loop-b.invariant.3 e)
 
 pub overflow_add-i : goal.overflow_add-i
-overflow_add-i c = let z = ap length (read_byte c.next_byte.ensures c.in-Byte.is) in let s = string_short c.args.text.now c.args.at in omega (arith, c.loop-b.invariant.2)
+overflow_add-i c = let z = ap length (read_byte c.next_byte.ensures c.in-Some.is) in let s = string_short c.args.text.now c.args.at in omega (arith, c.loop-b.invariant.2)
 
 pub loop-b-smaller : goal.loop-b-smaller
-loop-b-smaller c = let z = ap length (read_byte c.next_byte.ensures c.in-Byte.is) in omega arith
+loop-b-smaller c = let z = ap length (read_byte c.next_byte.ensures c.in-Some.is) in omega arith
 
 pub loop-b-preserved : goal.loop-b-preserved
-loop-b-preserved c = let z = ap length (read_byte c.next_byte.ensures c.in-Byte.is) in ((read_within c.next_byte.ensures c.in-Byte.is), ap length c.put.ensures ∙ simp length-set c.loop-b.invariant.1, omega (arith, c.loop-b.invariant.2), copy_turn _ _ _ _ _ _ c.loop-b.invariant.3 (read_byte c.next_byte.ensures c.in-Byte.is) c.put.ensures)
+loop-b-preserved c = let z = ap length (read_byte c.next_byte.ensures c.in-Some.is) in ((read_within c.next_byte.ensures c.in-Some.is), ap length c.put.ensures ∙ simp length-set c.loop-b.invariant.1, omega (arith, c.loop-b.invariant.2), copy_turn _ _ _ _ _ _ c.loop-b.invariant.3 (read_byte c.next_byte.ensures c.in-Some.is) c.put.ensures)

@@ -21,26 +21,26 @@ loop-b-init c =
 pub next_byte-requires : goal.next_byte-requires
 next_byte-requires c = c.loop-b.invariant.0
 
-pub returns-in_default : goal.returns-in_default
-returns-in_default c =
+pub returns : goal.returns
+returns c =
     let e = read_end c.next_byte.ensures c.in_default.is in
     let z = ap length e in
     word_end c.args.word.now _ c.loop-b.i c.loop-b.invariant.2 (omega (arith, c.loop-b.invariant.1)) e
 
 pub bounds-word-i : goal.bounds-word-i
-bounds-word-i c = let z = ap length (read_byte c.next_byte.ensures c.in-Byte.is) in omega (arith, c.loop-b.invariant.1)
+bounds-word-i c = let z = ap length (read_byte c.next_byte.ensures c.in-Some.is) in omega (arith, c.loop-b.invariant.1)
 
 pub returns-then-word-i : goal.returns-then-word-i
 returns-then-word-i c =
-    let e = read_byte c.next_byte.ensures c.in-Byte.is in
+    let e = read_byte c.next_byte.ensures c.in-Some.is in
     let z = ap length e in
     word_differ c.args.word.now _ c.loop-b.i c.loop-b.invariant.2 e (omega (arith, c.loop-b.invariant.1)) c.if-word-i.true
 
 pub loop-b-smaller : goal.loop-b-smaller
-loop-b-smaller c = let z = ap length (read_byte c.next_byte.ensures c.in-Byte.is) in omega arith
+loop-b-smaller c = let z = ap length (read_byte c.next_byte.ensures c.in-Some.is) in omega arith
 
 pub loop-b-preserved : goal.loop-b-preserved
 loop-b-preserved c =
-    let e = read_byte c.next_byte.ensures c.in-Byte.is in
+    let e = read_byte c.next_byte.ensures c.in-Some.is in
     let z = ap length e in
-    (read_within c.next_byte.ensures c.in-Byte.is, omega (arith, c.loop-b.invariant.1), word_turn c.args.word.now _ c.loop-b.i c.loop-b.invariant.2 e (omega (arith, c.loop-b.invariant.1)) c.if-word-i.false)
+    (read_within c.next_byte.ensures c.in-Some.is, omega (arith, c.loop-b.invariant.1), word_turn c.args.word.now _ c.loop-b.i c.loop-b.invariant.2 e (omega (arith, c.loop-b.invariant.1)) c.if-word-i.false)

@@ -21,25 +21,25 @@ loop-a-init c =
 pub next_byte-requires : goal.next_byte-requires
 next_byte-requires c = c.loop-a.invariant.0
 
-pub returns-in_default : goal.returns-in_default
-returns-in_default c = both_end _ _ c.loop-a.invariant.3 c.loop-a.invariant.2 (read_end c.next_byte.ensures c.in_default.is)
+pub returns : goal.returns
+returns c = both_end _ _ c.loop-a.invariant.3 c.loop-a.invariant.2 (read_end c.next_byte.ensures c.in_default.is)
 
-pub next_byte-requires-in-loop-a : goal.next_byte-requires-in-loop-a
-next_byte-requires-in-loop-a c = c.loop-a.invariant.1
+pub next_byte-requires-in-Some : goal.next_byte-requires-in-Some
+next_byte-requires-in-Some c = c.loop-a.invariant.1
 
 pub returns-in_default-next_byte : goal.returns-in_default-next_byte
-returns-in_default-next_byte c = other_ends _ _ c.loop-a.invariant.3 (read_byte c.next_byte.ensures c.in-Byte.is) (read_end c.next_byte-in-loop-a.ensures c.in_default-next_byte.is)
+returns-in_default-next_byte c = other_ends _ _ c.loop-a.invariant.3 (read_byte c.next_byte.ensures c.in-Some.is) (read_end c.next_byte-in-Some.ensures c.in_default-next_byte.is)
 
 pub returns-then-a-b : goal.returns-then-a-b
-returns-then-a-b c = bytes_differ _ _ c.loop-a.invariant.3 (read_byte c.next_byte.ensures c.in-Byte.is) (read_byte c.next_byte-in-loop-a.ensures c.in-Byte-next_byte.is) c.if-a-b.true
+returns-then-a-b c = bytes_differ _ _ c.loop-a.invariant.3 (read_byte c.next_byte.ensures c.in-Some.is) (read_byte c.next_byte-in-Some.ensures c.in-Some-next_byte.is) c.if-a-b.true
 
 pub loop-a-smaller : goal.loop-a-smaller
-loop-a-smaller c = let z = ap length (read_byte c.next_byte.ensures c.in-Byte.is) in omega arith
+loop-a-smaller c = let z = ap length (read_byte c.next_byte.ensures c.in-Some.is) in omega arith
 
 pub loop-a-preserved : goal.loop-a-preserved
 loop-a-preserved c =
-    let e = read_byte c.next_byte.ensures c.in-Byte.is in
-    let f = read_byte c.next_byte-in-loop-a.ensures c.in-Byte-next_byte.is in
+    let e = read_byte c.next_byte.ensures c.in-Some.is in
+    let f = read_byte c.next_byte-in-Some.ensures c.in-Some-next_byte.is in
     let y = ap length e in
     let z = ap length f in
-    (read_within c.next_byte.ensures c.in-Byte.is, read_within c.next_byte-in-loop-a.ensures c.in-Byte-next_byte.is, omega (arith, c.loop-a.invariant.2), bytes_turn _ _ c.loop-a.invariant.3 e f c.if-a-b.false)
+    (read_within c.next_byte.ensures c.in-Some.is, read_within c.next_byte-in-Some.ensures c.in-Some-next_byte.is, omega (arith, c.loop-a.invariant.2), bytes_turn _ _ c.loop-a.invariant.3 e f c.if-a-b.false)

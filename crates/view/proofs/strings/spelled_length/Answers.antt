@@ -12,14 +12,14 @@ loop-next-init c = (c.opening-c.ensures.1, omega (arith, ap length c.opening-c.e
 pub next_byte-requires : goal.next_byte-requires
 next_byte-requires c = c.loop-next.invariant.0
 
-pub returns-in-End : goal.returns-in-End
-returns-in-End c = let z = ap length (read_end c.next_byte.ensures c.in-End.is) in omega (arith, c.loop-next.invariant.1)
+pub returns : goal.returns
+returns c = let z = ap length (read_end c.next_byte.ensures c.in_default.is) in omega (arith, c.loop-next.invariant.1)
 
 pub overflow_add-n : goal.overflow_add-n
-overflow_add-n c = let z = ap length (read_byte c.next_byte.ensures c.in-Byte.is) in let s = string_short c.args.text.now c.args.at in omega (arith, c.loop-next.invariant.1)
+overflow_add-n c = let z = ap length (read_byte c.next_byte.ensures c.in-Some.is) in let s = string_short c.args.text.now c.args.at in omega (arith, c.loop-next.invariant.1)
 
 pub loop-next-smaller : goal.loop-next-smaller
-loop-next-smaller c = let z = ap length (read_byte c.next_byte.ensures c.in-Byte.is) in omega arith
+loop-next-smaller c = let z = ap length (read_byte c.next_byte.ensures c.in-Some.is) in omega arith
 
 pub loop-next-preserved : goal.loop-next-preserved
-loop-next-preserved c = let z = ap length (read_byte c.next_byte.ensures c.in-Byte.is) in (read_within c.next_byte.ensures c.in-Byte.is, omega (arith, c.loop-next.invariant.1))
+loop-next-preserved c = let z = ap length (read_byte c.next_byte.ensures c.in-Some.is) in (read_within c.next_byte.ensures c.in-Some.is, omega (arith, c.loop-next.invariant.1))
