@@ -21,7 +21,7 @@ use view::{Members, literal, members_at, string_copy};
 // A string, with the object whose `type` it is, if there is one; an array, map, record, enum or fixed by its object; a union by its bracket.
 #[derive(Clone, Copy)]
 pub enum Form {
-    Word(usize, Spot),
+    Word(usize, Option<usize>),
     ArrayOf(usize),
     MapOf(usize),
     UnionOf(usize),

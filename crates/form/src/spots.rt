@@ -81,15 +81,13 @@ pub fn all_texts(text: &[u8], ends: &[u16], array: usize) -> bool
     ensures { result ≡ all_texts text.now (elements text.now array) }
 {
     let mut spot = first_element(text, array);
-    loop {
-        let Some(p) = spot else {
-            return true;
-        };
+    while let Some(p) = spot {
         if !is_text(text, p) {
             return false;
         }
         spot = next_element(text, ends, p);
     }
+    true
 }
 
 // The first of the strings of `aliases`, whose value is at the place; the others are the elements behind it.

@@ -9,8 +9,8 @@ use Rattle.form.proofs.spots.all_texts.Goals as goal
 pub loop-spot-init : goal.loop-spot-init
 loop-spot-init c = ap (all_texts _) (left_start _ _ c.first_element-spot.ensures)
 
-pub returns-in_default : goal.returns-in_default
-returns-in_default c = texts_done _ c.loop-spot.invariant c.in_default.is
+pub returns : goal.returns
+returns c = texts_done _ c.loop-spot.invariant c.in_default.is
 
 pub returns-then-not-is_text : goal.returns-then-not-is_text
 returns-then-not-is_text c = texts_not _ c.loop-spot.invariant c.in-Some.is c.is_text.ensures c.if-not-is_text.true
