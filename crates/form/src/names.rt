@@ -74,7 +74,12 @@ pub fn simple_check(text: &[u8], ends: &[u16], at: usize, word: &mut [u8; Scan::
 }
 
 // The full name of what is written at `at`, in a namespace: 9.
-fn qualified(namespace: &[u8], written: &[u8], at: usize, full: &mut [u8; Full::LONGEST]) -> Result<usize, Fault>
+fn qualified(
+    namespace: &[u8],
+    written: &[u8],
+    at: usize,
+    full: &mut [u8; Full::LONGEST],
+) -> Result<usize, Fault>
     ensures { (result ≡ named (kept (full_name namespace.now written.now) at) (full_name namespace.now written.now)) × (full.new ≡ kept_in full.old (kept (full_name namespace.now written.now) at) (full_name namespace.now written.now)) }
 {
     match full_name(namespace, written, full) {
@@ -87,7 +92,12 @@ fn qualified(namespace: &[u8], written: &[u8], at: usize, full: &mut [u8; Full::
 }
 
 // The same of a name that is given to something: 8, 9. The last part of what is written is that of the full name.
-fn given(namespace: &[u8], written: &[u8], at: usize, full: &mut [u8; Full::LONGEST]) -> Result<usize, Fault>
+fn given(
+    namespace: &[u8],
+    written: &[u8],
+    at: usize,
+    full: &mut [u8; Full::LONGEST],
+) -> Result<usize, Fault>
     ensures { (result ≡ named (unreserved (full_name namespace.now written.now) at then kept (full_name namespace.now written.now) at) (full_name namespace.now written.now)) × (full.new ≡ kept_in full.old (unreserved (full_name namespace.now written.now) at then kept (full_name namespace.now written.now) at) (full_name namespace.now written.now)) }
 {
     if is_reserved(written) {

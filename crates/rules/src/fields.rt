@@ -35,15 +35,13 @@ fn is_alias(text: &[u8], ends: &[u16], aliases: Option<usize>, at: usize) -> boo
     ensures { result ≡ is_one_of (map (string_at text.now) (aliases_in text.now aliases)) (string_at text.now at) }
 {
     let mut spot = first_alias(text, ends, aliases);
-    loop {
-        let Some(p) = spot else {
-            return false;
-        };
+    while let Some(p) = spot {
         if strings_same(text, ends, at, p) {
             return true;
         }
         spot = next_element(text, ends, p);
     }
+    false
 }
 
 // Does the field take the string at `at`, as its name or an alias?
@@ -77,10 +75,7 @@ fn is_taken(text: &[u8], ends: &[u16], array: usize, place: usize, at: usize) ->
     ensures { result ≡ is_one_of (taken_among text.now (before place (elements text.now array))) (string_at text.now at) }
 {
     let mut spot = first_element(text, array);
-    loop {
-        let Some(p) = spot else {
-            return false;
-        };
+    while let Some(p) = spot {
         if p == place {
             return false;
         }
@@ -89,6 +84,7 @@ fn is_taken(text: &[u8], ends: &[u16], array: usize, place: usize, at: usize) ->
         }
         spot = next_element(text, ends, p);
     }
+    false
 }
 
 // Enters the strings of `aliases`, whose value is at the place.
@@ -97,10 +93,7 @@ fn enter_aliases(text: &[u8], ends: &[u16], aliases: Option<usize>, table: &mut 
     ensures { table.new ≡ entered_all table.old (map (string_at text.now) (aliases_in text.now aliases)) }
 {
     let mut spot = first_alias(text, ends, aliases);
-    loop {
-        let Some(p) = spot else {
-            return;
-        };
+    while let Some(p) = spot {
         let own = mark(text, ends, p);
         enter(table, own);
         spot = next_element(text, ends, p);
@@ -108,7 +101,13 @@ fn enter_aliases(text: &[u8], ends: &[u16], aliases: Option<usize>, table: &mut 
 }
 
 // Enters what a field takes, its name and its aliases. Was its name marked before?
-fn enter_names(text: &[u8], ends: &[u16], name: usize, aliases: Option<usize>, table: &mut [u64]) -> bool
+fn enter_names(
+    text: &[u8],
+    ends: &[u16],
+    name: usize,
+    aliases: Option<usize>,
+    table: &mut [u64],
+) -> bool
     requires { Known text.now ends.now × Sized table.old }
     ensures { (result ≡ is_marked table.old (mark_of (string_at text.now name))) × (table.new ≡ entered_all table.old (string_at text.now name ∷ map (string_at text.now) (aliases_in text.now aliases))) }
 {
@@ -147,15 +146,11 @@ fn all_names(text: &[u8], ends: &[u16], array: usize, table: &mut [u64]) -> Chec
     ensures { result ≡ field_names_check text.now [] (fields_in text.now array) }
 {
     let mut spot = first_element(text, array);
-    loop {
-        let Some(p) = spot else {
-            return Ok(());
-        };
-        if let Err(f) = field_name(text, ends, array, p, table) {
-            return Err(f);
-        }
+    while let Some(p) = spot {
+        field_name(text, ends, array, p, table)?;
         spot = next_element(text, ends, p);
     }
+    Ok(())
 }
 
 // 11, for the `fields` at a place. What the table holds is forgotten.

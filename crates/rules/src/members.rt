@@ -101,15 +101,13 @@ fn new_until(
 {
     let mut full: [u8; Full::LONGEST] = [0; Full::LONGEST];
     let mut spot = first_element(text, array);
-    loop {
-        let Some(p) = spot else {
-            return text.len();
-        };
+    while let Some(p) = spot {
         if !enter_member(text, ends, namespace, array, p, table, word, &mut full) {
             return p;
         }
         spot = next_element(text, ends, p);
     }
+    text.len()
 }
 
 // A union is small with at most so many members, or with fewer bytes.

@@ -28,10 +28,7 @@ fn all_strings(text: &[u8], ends: &[u16], array: usize) -> Check
     ensures { result ≡ each_of (λ q. must (is_text (shape_at text.now q)) (fault SymbolNotAString q)) (elements text.now array) }
 {
     let mut spot = first_element(text, array);
-    loop {
-        let Some(p) = spot else {
-            return Ok(());
-        };
+    while let Some(p) = spot {
         if !is_text(text, p) {
             return Err(Fault {
                 why: Why::SymbolNotAString,
@@ -40,6 +37,7 @@ fn all_strings(text: &[u8], ends: &[u16], array: usize) -> Check
         }
         spot = next_element(text, ends, p);
     }
+    Ok(())
 }
 
 // Is the string at `at` one of the array's strings that stand before a place?
@@ -48,10 +46,7 @@ fn is_among(text: &[u8], ends: &[u16], array: usize, place: usize, at: usize) ->
     ensures { result ≡ is_one_of (map (string_at text.now) (before place (elements text.now array))) (string_at text.now at) }
 {
     let mut spot = first_element(text, array);
-    loop {
-        let Some(p) = spot else {
-            return false;
-        };
+    while let Some(p) = spot {
         if p == place {
             return false;
         }
@@ -60,6 +55,7 @@ fn is_among(text: &[u8], ends: &[u16], array: usize, place: usize, at: usize) ->
         }
         spot = next_element(text, ends, p);
     }
+    false
 }
 
 // Enters the string at `at`. Is it one of the array's strings that stand before it, which are entered?
@@ -87,10 +83,8 @@ fn symbol(
     ensures { (result ≡ simple_check text.now at then must (not (is_one_of (map (string_at text.now) (before at (elements text.now array))) (string_at text.now at))) (fault SymbolTwice at)) × (table.new ≡ entered table.old (mark_of (string_at text.now at))) }
 {
     let twice = enter_symbol(text, ends, array, at, table);
-    match simple_check(text, ends, at, word) {
-        Err(f) => Err(f),
-        Ok(()) => must(!twice, Why::SymbolTwice, at),
-    }
+    simple_check(text, ends, at, word)?;
+    must(!twice, Why::SymbolTwice, at)
 }
 
 // 7, 9, 14 for each, with an empty table.
@@ -105,15 +99,11 @@ fn each_symbol(
     ensures { result ≡ symbols_new text.now [] (elements text.now array) }
 {
     let mut spot = first_element(text, array);
-    loop {
-        let Some(p) = spot else {
-            return Ok(());
-        };
-        if let Err(f) = symbol(text, ends, array, p, table, word) {
-            return Err(f);
-        }
+    while let Some(p) = spot {
+        symbol(text, ends, array, p, table, word)?;
         spot = next_element(text, ends, p);
     }
+    Ok(())
 }
 
 // 7, 9, 14 for each. What the table holds is forgotten.
@@ -142,10 +132,8 @@ pub fn symbols_check(
     requires { (length text.now ≤ longest) × Known text.now ends.now × Sized table.old }
     ensures { result ≡ symbols_check text.now (elements text.now array) }
 {
-    match all_strings(text, ends, array) {
-        Err(f) => Err(f),
-        Ok(()) => each_new(text, ends, array, table, word),
-    }
+    all_strings(text, ends, array)?;
+    each_new(text, ends, array, table, word)
 }
 
 // The `default` of the enum with the `symbols` at a place: 15, 16. All symbols stand before the text's end.

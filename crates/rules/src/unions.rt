@@ -58,10 +58,7 @@ fn is_new_kind(text: &[u8], ends: &[u16], array: usize, member: usize, kind: Kin
 {
     let number = kind.number();
     let mut spot = first_element(text, array);
-    loop {
-        let Some(p) = spot else {
-            return true;
-        };
+    while let Some(p) = spot {
         if p == member {
             return true;
         }
@@ -70,6 +67,7 @@ fn is_new_kind(text: &[u8], ends: &[u16], array: usize, member: usize, kind: Kin
         }
         spot = next_element(text, ends, p);
     }
+    true
 }
 
 // 19, for a schema of an unnamed kind, in whatever namespace.
@@ -263,10 +261,7 @@ pub(crate) fn is_new_name(
 {
     let mut other: [u8; Full::LONGEST] = [0; Full::LONGEST];
     let mut spot = first_element(text, array);
-    loop {
-        let Some(p) = spot else {
-            return true;
-        };
+    while let Some(p) = spot {
         if p == member {
             return true;
         }
@@ -275,6 +270,7 @@ pub(crate) fn is_new_name(
         }
         spot = next_element(text, ends, p);
     }
+    true
 }
 
 // 19, for a schema with a full name, in a namespace.

@@ -1,6 +1,6 @@
 -- What was done, one thing after the other: nothing here knows the format.
 -- Assumes nothing.
-use Rattle.std.specs.Prelude.{Ok, Err}
+use Rattle.std.specs.Prelude.{Ok, Err, Result}
 use mathlib.Core.Path.{◌≡◌, refl, sym, ap, ◌∙◌, subst}
 use mathlib.Core.List.{List, [], ◌∷◌, append-nil, append_assoc}
 use Prim.Native.Nat.{ℕ, ◌-◌, ◌≤◌}
@@ -14,9 +14,8 @@ use Rattle.row.specs.Memory.{counted, pushed, counted_all, pushed_all}
 use Rattle.row.proofs.RowLaws.{length_strings}
 use Rattle.row.proofs.Laws.{counted_append, pushed_append}
 use Rattle.schema.specs.declared.walked.Defined.{Defined}
-use Rattle.schema.specs.declared.walked.Defined.TheVariants as defined
 use Rattle.schema.specs.Out.{Out, refused, read, rows_then, and_then, after, Walked}
-use Rattle.schema.specs.Did.{Did, Titled}
+use Rattle.schema.specs.Did.{Did, Titled, defined_as}
 use Rattle.form.specs.Checks.{Check}
 
 -- ---- the answers at the leaves
@@ -119,7 +118,7 @@ after_then (Err f) o next = refl
 -- ---- definitions
 
 pub titled_as : {m m' buffer full : List ℕ} {c c' : Counts} {r : Walked} {n : ℕ} (o : Out) → Did m c m' r o → r ≡ Ok c' → n ≤ length buffer → take (n - 0) (drop 0 buffer) ≡ full
-    → Titled m c m' (defined.As n c') buffer full o
+    → Titled m c m' (defined_as n c') buffer full o
 titled_as (refused x) d e k h =
     let a = d.did in
     let z : ◌≡◌ {A = ℕ} 0 1 = cc in
@@ -127,27 +126,27 @@ titled_as (refused x) d e k h =
 titled_as {c = c} {c'} {n = n} (read rows) d e k h =
     let a = d.did.0 in
     let z : c' ≡ counted_all c rows = cc in
-    record { titled = (n, ap (defined.As n) z, d.did.1, k, h) }
+    record { titled = (n, ap (defined_as n) z, d.did.1, k, h) }
 
-pub titled_bad : {m m' buffer full : List ℕ} {c : Counts} {r : Walked} {f : Fault} (o : Out) → Did m c m' r o → r ≡ Err f → Titled m c m' (defined.Bad f) buffer full o
-titled_bad {f = f} (refused x) d e = let a = d.did in let z : f ≡ x = cc in record { titled = ap defined.Bad z }
+pub titled_bad : {m m' buffer full : List ℕ} {c : Counts} {r : Walked} {f : Fault} (o : Out) → Did m c m' r o → r ≡ Err f → Titled m c m' (Err f) buffer full o
+titled_bad {f = f} (refused x) d e = let a = d.did in let z : f ≡ x = cc in record { titled = ap Err z }
 titled_bad (read rows) d e =
     let a = d.did.0 in
     let z : ◌≡◌ {A = ℕ} 0 1 = cc in
     absurd (omega arith)
 
+same_defined : (n k : ℕ) {c d : Counts} → defined_as n c ≡ defined_as k d → ◌≡◌ {A = Defined} (record { name = n; next = c }) (record { name = k; next = d })
+same_defined n k e = cc
+
 -- the same as a walk's answer
-pub did_titled : {m m' buffer full : List ℕ} {c c' : Counts} {r : Defined} {n : ℕ} (o : Out) → Titled m c m' r buffer full o → r ≡ defined.As n c' → Did m c m' (Ok c') o
+pub did_titled : {m m' buffer full : List ℕ} {c c' : Counts} {r : Result Defined Fault} {n : ℕ} (o : Out) → Titled m c m' r buffer full o → r ≡ defined_as n c' → Did m c m' (Ok c') o
 did_titled (refused x) d e =
     let a = d.titled in
     let z : ◌≡◌ {A = ℕ} 0 1 = cc in
     absurd (omega arith)
-did_titled {c = c} {c'} (read rows) d e =
-    let a = d.titled.1 in
-    let z : c' ≡ counted_all c rows = cc in
-    record { did = (ap Ok z, d.titled.2) }
+did_titled {c = c} {c'} {n = n} (read rows) d e = record { did = (ap (λ (x : Defined). Ok x.next) (same_defined n d.titled.0 (sym e ∙ d.titled.1)), d.titled.2) }
 
-pub did_untitled : {m m' buffer full : List ℕ} {c : Counts} {r : Defined} {f : Fault} (o : Out) → Titled m c m' r buffer full o → r ≡ defined.Bad f → Did m c m' (Err f) o
+pub did_untitled : {m m' buffer full : List ℕ} {c : Counts} {r : Result Defined Fault} {f : Fault} (o : Out) → Titled m c m' r buffer full o → r ≡ Err f → Did m c m' (Err f) o
 did_untitled {f = f} (refused x) d e = let a = d.titled in let z : f ≡ x = cc in record { did = ap Err z }
 did_untitled (read rows) d e =
     let a = d.titled.1 in
@@ -155,13 +154,12 @@ did_untitled (read rows) d e =
     absurd (omega arith)
 
 -- the full name in the buffer
-pub titled_front : {m m' buffer full : List ℕ} {c c' : Counts} {r : Defined} {n : ℕ} (o : Out) → Titled m c m' r buffer full o → r ≡ defined.As n c'
+pub titled_front : {m m' buffer full : List ℕ} {c c' : Counts} {r : Result Defined Fault} {n : ℕ} (o : Out) → Titled m c m' r buffer full o → r ≡ defined_as n c'
     → (n ≤ length buffer) × (take (n - 0) (drop 0 buffer) ≡ full)
 titled_front (refused x) d e =
     let a = d.titled in
     let z : ◌≡◌ {A = ℕ} 0 1 = cc in
     absurd (omega arith)
 titled_front {buffer = buffer} {full} {n = n} (read rows) d e =
-    let a = d.titled.1 in
-    let z : d.titled.0 ≡ n = cc in
+    let z = ap (λ (x : Defined). x.name) (same_defined d.titled.0 n (sym d.titled.1 ∙ e)) in
     subst (λ (k : ℕ). (k ≤ length buffer) × (take (k - 0) (drop 0 buffer) ≡ full)) z (d.titled.3, d.titled.4)

@@ -1,6 +1,6 @@
 -- Definitions, enums and fixeds: one law for each way out of the code.
 -- Assumes nothing.
-use Rattle.std.specs.Prelude.{Option, Some, None, Ok, Err}
+use Rattle.std.specs.Prelude.{Option, Some, None, Ok, Err, Result}
 use mathlib.Core.Path.{◌≡◌, refl, sym, ap, ◌∙◌, subst}
 use mathlib.Core.List.{List, [], ◌∷◌}
 use Prim.Native.Nat.{ℕ, ◌+◌, ◌-◌, ◌≤◌}
@@ -27,10 +27,9 @@ use Rattle.form.specs.Notes.{on_size, noted, note_of}
 use Rattle.rules.specs.Symbols.{symbols_check, default_check}
 use Rattle.rules.specs.Unions.{called, union_check, name_of}
 use Rattle.schema.specs.declared.walked.Defined.{Defined}
-use Rattle.schema.specs.declared.walked.Defined.TheVariants as defined
 use Rattle.schema.specs.Out.{Out, read, rows_then, and_then, after, no, each, Walked}
 use Rattle.schema.specs.Schema.{Around, alias_rows, symbol_rows, definition_rows, definition, enum_rows, fixed_rows}
-use Rattle.schema.specs.Did.{Did, Titled, entry, around, headed, head_rows, symbols_rows}
+use Rattle.schema.specs.Did.{Did, Titled, entry, around, headed, head_rows, symbols_rows, defined_as}
 use Rattle.schema.proofs.Did.{did_bad, did_eq, did_after, did_fault, did_fine, did_end, did_titled, did_untitled, titled_as, titled_bad, rows_then_lem, after_then}
 
 -- ---- the row and the aliases
@@ -62,22 +61,22 @@ known t namespace standing kind d q o size note {m} {m'} {c} i {x} j {r} k =
 
 module _ (t namespace : List ℕ) (standing : Standing) (kind : Kind) (d p : ℕ) (o : Members) (size : ℕ) (note : Note) {m m' buffer : List ℕ} {c : Counts}
     {s : Option ℕ} (e : s ≡ as_text t o.name) where
-  pub titled_none : s ≡ None → Titled m c m' (defined.Bad (fault NameMissing p)) buffer (name_of t namespace o) (head_rows t (around namespace standing) kind d p o size note)
+  pub titled_none : s ≡ None → Titled m c m' (Err (fault NameMissing p)) buffer (name_of t namespace o) (head_rows t (around namespace standing) kind d p o size note)
   unfolding head_rows name_of
   titled_none g = rw (← e, g) (titled_bad (no NameMissing p) (did_bad m m' c (fault NameMissing p)) refl)
 
   module _ {q : ℕ} (g : s ≡ Some q) where
-    pub titled_wrong : {f : Fault} → definition_check t namespace o q ≡ Err f → Titled m c m' (defined.Bad f) buffer (name_of t namespace o) (head_rows t (around namespace standing) kind d p o size note)
+    pub titled_wrong : {f : Fault} → definition_check t namespace o q ≡ Err f → Titled m c m' (Err f) buffer (name_of t namespace o) (head_rows t (around namespace standing) kind d p o size note)
     unfolding head_rows name_of
     titled_wrong h = rw (← e, g) (titled_bad (after (definition_check t namespace o q) _) (did_fault (definition_check t namespace o q) _ h) refl)
 
     module _ (h : definition_check t namespace o q ≡ Ok tt) {w : List ℕ} (i : w ≡ defined_at t namespace o q) {x : Entry} (j : x ≡ entry kind d q size note)
         {r : Walked} (k : Did m c m' r (headed t (around namespace standing) x w o.aliases)) where
-      pub titled_stop : {f : Fault} → r ≡ Err f → Titled m c m' (defined.Bad f) buffer (name_of t namespace o) (head_rows t (around namespace standing) kind d p o size note)
+      pub titled_stop : {f : Fault} → r ≡ Err f → Titled m c m' (Err f) buffer (name_of t namespace o) (head_rows t (around namespace standing) kind d p o size note)
       unfolding head_rows name_of
       titled_stop l = rw (← e, g) (titled_bad (after (definition_check t namespace o q) _) (did_fine (definition_check t namespace o q) _ h (known t namespace standing kind d q o size note i j k)) l)
 
-      pub titled_done : {c' : Counts} {n : ℕ} → r ≡ Ok c' → n ≤ length buffer → take (n - 0) (drop 0 buffer) ≡ defined_at t namespace o q → Titled m c m' (defined.As n c') buffer (name_of t namespace o) (head_rows t (around namespace standing) kind d p o size note)
+      pub titled_done : {c' : Counts} {n : ℕ} → r ≡ Ok c' → n ≤ length buffer → take (n - 0) (drop 0 buffer) ≡ defined_at t namespace o q → Titled m c m' (defined_as n c') buffer (name_of t namespace o) (head_rows t (around namespace standing) kind d p o size note)
       unfolding head_rows name_of
       titled_done l u v = rw (← e, g) (titled_as (after (definition_check t namespace o q) _) (did_fine (definition_check t namespace o q) _ h (known t namespace standing kind d q o size note i j k)) l u v)
 
@@ -150,10 +149,10 @@ module _ (t namespace : List ℕ) (standing : Standing) (d p : ℕ) (o : Members
     unfolding fixed_rows
     size_not i = rw (g, ← h, i) (did_bad m m' c (fault NotASize v))
 
-    module _ {size : ℕ} (i : s ≡ Some size) {note : Note} (j : note ≡ note_of t o (over.Fixed size)) {buffer full : List ℕ} {r : Defined}
+    module _ {size : ℕ} (i : s ≡ Some size) {note : Note} (j : note ≡ note_of t o (over.Fixed size)) {buffer full : List ℕ} {r : Result Defined Fault}
         (k : Titled m c m' r buffer full (head_rows t (around namespace standing) Fixed d p o size note)) where
-      pub fixed_bad : {f : Fault} → r ≡ defined.Bad f → Did m c m' (Err f) (fixed_rows t (around namespace standing) d p o)
+      pub fixed_bad : {f : Fault} → r ≡ Err f → Did m c m' (Err f) (fixed_rows t (around namespace standing) d p o)
       fixed_bad l = did_eq (fixed_is t namespace standing d p o g h i j) (did_end (head_rows t (around namespace standing) Fixed d p o size note) (did_untitled _ k l))
 
-      pub fixed_done : {n : ℕ} {c' : Counts} → r ≡ defined.As n c' → Did m c m' (Ok c') (fixed_rows t (around namespace standing) d p o)
+      pub fixed_done : {n : ℕ} {c' : Counts} → r ≡ defined_as n c' → Did m c m' (Ok c') (fixed_rows t (around namespace standing) d p o)
       fixed_done l = did_eq (fixed_is t namespace standing d p o g h i j) (did_end (head_rows t (around namespace standing) Fixed d p o size note) (did_titled _ k l))

@@ -1,6 +1,6 @@
 -- Any schema, by its form: one law for each way out of the code.
 -- Assumes nothing.
-use Rattle.std.specs.Prelude.{Option, Some, None, Ok, Err}
+use Rattle.std.specs.Prelude.{Option, Some, None, Ok, Err, Result}
 use mathlib.Core.Path.{◌≡◌, refl, sym, ap, ◌∙◌, subst}
 use mathlib.Core.Bool.{Bool, true, false, cond}
 use mathlib.Core.List.{List, [], ◌∷◌}
@@ -46,10 +46,9 @@ use Rattle.rules.specs.Fields.{field_names_check}
 use Rattle.rules.specs.Unions.{unnamed, union_check, name_of}
 use Rattle.form.proofs.Laws.{found_form, found_members}
 use Rattle.schema.specs.declared.walked.Defined.{Defined}
-use Rattle.schema.specs.declared.walked.Defined.TheVariants as defined
 use Rattle.schema.specs.Out.{Out, refused, read, rows_then, and_then, after, no, each, Walked}
 use Rattle.schema.specs.Schema.{Around, within, row_with, new_kind, reference_rows, primitive_rows, word_rows, field_alias_rows, field_row, kept_check, field_rows, fields_rows, record_rows, enum_rows, fixed_rows, part_rows, union_rows, schema_by, schema_of, rows_of, declared}
-use Rattle.schema.specs.Did.{Did, Titled, around, primitive_with, word_with, head_rows, field_head, element_rows}
+use Rattle.schema.specs.Did.{Did, Titled, around, primitive_with, word_with, head_rows, field_head, element_rows, defined_as}
 use Rattle.schema.proofs.Did.{did_bad, did_eq, did_after, did_stop, did_then, did_fault, did_fine, did_titled, did_untitled, titled_front, none_then, rows_then_lem, part_then, after_then}
 use Rattle.schema.proofs.Steps.{objects_done, objects_next}
 use Rattle.schema.proofs.Headed.{definition_then}
@@ -164,11 +163,11 @@ record_then schema t a d p o =
     definition_then t a Record d p o 0 (noted 0) (λ own. on_spot (as_array t o.fields) (λ v. fields_rows (schema (within own)) t (d + 1) (fields_in t v)) (no FieldsMissing p))
 
 module _ (schema : Around → ℕ → ℕ → Out) (t namespace : List ℕ) (standing : Standing) (d p : ℕ) (o : Members) {m m'' buffer : List ℕ} {c : Counts}
-    {r : Defined} (e : Titled m c m'' r buffer (name_of t namespace o) (head_rows t (around namespace standing) Record d p o 0 (noted 0))) where
-  pub record_bad : {m' : List ℕ} {f : Fault} → r ≡ defined.Bad f → Did m c m' (Err f) (record_rows schema t (around namespace standing) d p o)
+    {r : Result Defined Fault} (e : Titled m c m'' r buffer (name_of t namespace o) (head_rows t (around namespace standing) Record d p o 0 (noted 0))) where
+  pub record_bad : {m' : List ℕ} {f : Fault} → r ≡ Err f → Did m c m' (Err f) (record_rows schema t (around namespace standing) d p o)
   record_bad g = did_eq (record_then schema t (around namespace standing) d p o) (did_stop _ _ (did_untitled _ e g) refl)
 
-  module _ {n : ℕ} {c'' : Counts} (g : r ≡ defined.As n c'') {s : Option ℕ} (h : s ≡ as_array t o.fields) where
+  module _ {n : ℕ} {c'' : Counts} (g : r ≡ defined_as n c'') {s : Option ℕ} (h : s ≡ as_array t o.fields) where
     pub record_none : s ≡ None → Did m c m'' (Err (fault FieldsMissing p)) (record_rows schema t (around namespace standing) d p o)
     record_none i =
         did_eq (record_then schema t (around namespace standing) d p o)

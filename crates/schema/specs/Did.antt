@@ -1,6 +1,6 @@
 -- What the contracts of the walk cite: from a draft and counts, the rows that were read were pushed.
 -- Assumes nothing.
-use Rattle.std.specs.Prelude.{ℕ, ◌+◌, ◌-◌, ◌*◌, ◌≤◌, ◌<◌, ◌≡◌, cond, List, [], ◌∷◌, eqb, length, take, drop, Option, Some, Ok, Err}
+use Rattle.std.specs.Prelude.{ℕ, ◌+◌, ◌-◌, ◌*◌, ◌≤◌, ◌<◌, ◌≡◌, cond, List, [], ◌∷◌, eqb, length, take, drop, Option, Some, Ok, Err, Result}
 use Rattle.answer.specs.declared.counts.Counts.{Counts}
 use Rattle.answer.specs.declared.refusal.Why.TheVariants.{NameMissing, SymbolsMissing}
 use Rattle.name.specs.Name.{namespace_part}
@@ -25,9 +25,9 @@ use Rattle.form.specs.declared.note.Plain.TheVariants as over
 use Rattle.form.specs.Notes.{noted, note_of}
 use Rattle.rules.specs.Symbols.{symbols_check, default_check}
 use Rattle.schema.specs.declared.walked.Defined.{Defined}
-use Rattle.schema.specs.declared.walked.Defined.TheVariants as defined
 use Rattle.schema.specs.Out.{Out, refused, read, rows_then, and_then, after, no, each, Walked}
 use Rattle.schema.specs.Schema.{Around, row_with, new_name, new_kind, reference_rows, alias_rows, field_alias_rows, field_row, kept_check, field_rows, symbol_rows}
+use Rattle.answer.specs.declared.refusal.Fault.{Fault}
 
 -- from the draft m with the counts c, a function that answered r and left m' did what o says; a draft that was refused holds anything
 abbrev pub Did' : List ℕ → Counts → List ℕ → Walked → Out → Type 0
@@ -38,12 +38,16 @@ pub record Did (m : List ℕ) (c : Counts) (m' : List ℕ) (r : Walked) (o : Out
   pub did : Did' m c m' r o
 
 -- the same for a definition, whose full name is then in the buffer
-abbrev pub Titled' : List ℕ → Counts → List ℕ → Defined → List ℕ → List ℕ → Out → Type 0
-Titled' m c m' r buffer full (refused f) = r ≡ defined.Bad f
-Titled' m c m' r buffer full (read rows) =
-    (n : ℕ) × (r ≡ defined.As n (counted_all c rows)) × (m' ≡ pushed_all m c rows) × (n ≤ length buffer) × (take (n - 0) (drop 0 buffer) ≡ full)
+-- a definition's name, its row and its aliases were read: the length of its full name, and the counts with its rows
+abbrev pub defined_as : ℕ → Counts → Result Defined Fault
+defined_as n c = Ok (record { name = n; next = c })
 
-pub record Titled (m : List ℕ) (c : Counts) (m' : List ℕ) (r : Defined) (buffer full : List ℕ) (o : Out) : Type 0 where
+abbrev pub Titled' : List ℕ → Counts → List ℕ → Result Defined Fault → List ℕ → List ℕ → Out → Type 0
+Titled' m c m' r buffer full (refused f) = r ≡ Err f
+Titled' m c m' r buffer full (read rows) =
+    (n : ℕ) × (r ≡ defined_as n (counted_all c rows)) × (m' ≡ pushed_all m c rows) × (n ≤ length buffer) × (take (n - 0) (drop 0 buffer) ≡ full)
+
+pub record Titled (m : List ℕ) (c : Counts) (m' : List ℕ) (r : Result Defined Fault) (buffer full : List ℕ) (o : Out) : Type 0 where
   pub titled : Titled' m c m' r buffer full o
 
 -- a row, all but its string

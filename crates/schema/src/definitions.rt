@@ -13,7 +13,7 @@ use super::walked::{Defined, Walked};
 use answer::{Counts, Fault, Why};
 use form::names::definition;
 use form::note::{Note, Plain};
-use form::{Check, Named, as_array, as_text, decimal_note, first_alias};
+use form::{as_array, as_text, decimal_note, first_alias};
 use json_scan::Scan;
 use name::{Full, namespace_part};
 use row::write::push;
@@ -37,24 +37,20 @@ fn put_definition(
     requires { (length text.now ≤ longest) × (length full.now ≤ kept_limit) × (row.depth < 65535) × Known text.now ends.now }
     ensures { Did draft.old counts draft.new result (headed text.now (around namespace.now standing) row full.now aliases) }
 {
-    match new_name(text, ends, namespace, standing, full, word) {
-        Err(f) => Err(f),
-        Ok(()) => {
-            let depth = row.depth;
-            let next = push(draft, counts, row, full);
-            let first = first_alias(text, ends, aliases);
-            put_aliases(
-                text,
-                ends,
-                namespace_part(full),
-                depth + 1,
-                first,
-                draft,
-                next,
-                word,
-            )
-        }
-    }
+    new_name(text, ends, namespace, standing, full, word)?;
+    let depth = row.depth;
+    let next = push(draft, counts, row, full);
+    let first = first_alias(text, ends, aliases);
+    put_aliases(
+        text,
+        ends,
+        namespace_part(full),
+        depth + 1,
+        first,
+        draft,
+        next,
+        word,
+    )
 }
 
 // The definition at `at` with these members, up to its aliases.
@@ -73,40 +69,34 @@ pub(crate) fn define(
     members: Members,
     size: u64,
     note: Note,
-) -> Defined
+) -> Result<Defined, Fault>
     requires { (length text.now ≤ longest) × (depth < 65535) × Known text.now ends.now }
     ensures { Titled draft.old counts draft.new result full.new (name_of text.now namespace.now members) (head_rows text.now (around namespace.now standing) kind depth at members size note) }
 {
     let name = members.name;
     let Some(q) = as_text(text, name) else {
-        return Defined::Bad(Fault {
+        return Err(Fault {
             why: Why::NameMissing,
             at,
         });
     };
-    match definition(text, ends, namespace, members, q, word, full) {
-        Err(f) => Defined::Bad(f),
-        Ok(n) => {
-            let row = entry(kind, depth, q, size, note);
-            let aliases = members.aliases;
-            let all = &full[..];
-            match put_definition(
-                text,
-                ends,
-                namespace,
-                standing,
-                row,
-                &all[0..n],
-                aliases,
-                draft,
-                counts,
-                word,
-            ) {
-                Err(f) => Defined::Bad(f),
-                Ok(next) => Defined::As(n, next),
-            }
-        }
-    }
+    let n = definition(text, ends, namespace, members, q, word, full)?;
+    let row = entry(kind, depth, q, size, note);
+    let aliases = members.aliases;
+    let all = &full[..];
+    let next = put_definition(
+        text,
+        ends,
+        namespace,
+        standing,
+        row,
+        &all[0..n],
+        aliases,
+        draft,
+        counts,
+        word,
+    )?;
+    Ok(Defined { name: n, next })
 }
 
 // ---- enums
@@ -133,13 +123,9 @@ fn put_checked_symbols(
             at,
         });
     };
-    if let Err(f) = symbols_check(text, ends, v, table, word) {
-        return Err(f);
-    }
+    symbols_check(text, ends, v, table, word)?;
     let default = members.default;
-    if let Err(f) = default_check(text, ends, default, v) {
-        return Err(f);
-    }
+    default_check(text, ends, default, v)?;
     put_symbols(text, ends, depth, v, draft, counts, word)
 }
 
@@ -165,7 +151,7 @@ pub(crate) fn put_enum(
         precision: 0,
         scale: 0,
     };
-    match define(
+    let defined = define(
         text,
         ends,
         namespace,
@@ -180,12 +166,9 @@ pub(crate) fn put_enum(
         members,
         0,
         none,
-    ) {
-        Defined::Bad(f) => Err(f),
-        Defined::As(_, next) => {
-            put_checked_symbols(text, ends, depth + 1, at, members, draft, next, word, table)
-        }
-    }
+    )?;
+    let next = defined.next;
+    put_checked_symbols(text, ends, depth + 1, at, members, draft, next, word, table)
 }
 
 // ---- fixeds
@@ -212,33 +195,29 @@ pub(crate) fn put_fixed(
             at,
         });
     };
-    match size_literal(text, v) {
-        None => Err(Fault {
+    let Some(size) = size_literal(text, v) else {
+        return Err(Fault {
             why: Why::NotASize,
             at: v,
-        }),
-        Some(size) => {
-            let mut full: [u8; Full::LONGEST] = [0; Full::LONGEST];
-            let note = decimal_note(text, ends, members, Plain::Fixed(size));
-            match define(
-                text,
-                ends,
-                namespace,
-                word,
-                &mut full,
-                draft,
-                counts,
-                standing,
-                Kind::Fixed,
-                depth,
-                at,
-                members,
-                size,
-                note,
-            ) {
-                Defined::Bad(f) => Err(f),
-                Defined::As(_, next) => Ok(next),
-            }
-        }
-    }
+        });
+    };
+    let mut full: [u8; Full::LONGEST] = [0; Full::LONGEST];
+    let note = decimal_note(text, ends, members, Plain::Fixed(size));
+    let defined = define(
+        text,
+        ends,
+        namespace,
+        word,
+        &mut full,
+        draft,
+        counts,
+        standing,
+        Kind::Fixed,
+        depth,
+        at,
+        members,
+        size,
+        note,
+    )?;
+    Ok(defined.next)
 }

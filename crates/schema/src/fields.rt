@@ -89,20 +89,14 @@ pub(crate) fn put_field_head(
             at,
         });
     };
-    if let Err(f) = simple_check(text, ends, q, word) {
-        return Err(f);
-    }
+    simple_check(text, ends, q, word)?;
     let default = members.default;
     let next = put_field_row(text, ends, depth, q, default, draft, counts, word);
     let aliases = members.aliases;
     let first = first_alias(text, ends, aliases);
-    match put_field_aliases(text, ends, depth + 1, first, draft, next, word) {
-        Err(f) => Err(f),
-        Ok(last) => match kept_check(text, ends, default) {
-            Err(f) => Err(f),
-            Ok(()) => Ok(last),
-        },
-    }
+    let last = put_field_aliases(text, ends, depth + 1, first, draft, next, word)?;
+    kept_check(text, ends, default)?;
+    Ok(last)
 }
 
 // 11, for the `fields` at a place, whose rows are counted.
@@ -116,8 +110,6 @@ pub(crate) fn named_apart(
     requires { Known text.now ends.now × Sized table.old }
     ensures { (m : List ℕ) → Did m counts m result (after (field_names_check text.now [] (fields_in text.now array)) (read [])) }
 {
-    match field_names(text, ends, array, table) {
-        Err(f) => Err(f),
-        Ok(()) => Ok(counts),
-    }
+    field_names(text, ends, array, table)?;
+    Ok(counts)
 }

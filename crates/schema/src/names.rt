@@ -14,7 +14,7 @@ ghost use Rattle.schema.specs.Did.{Did, entry};
 use super::walked::Walked;
 use answer::Counts;
 use form::note::Note;
-use form::{Check, Named, alias, simple_check};
+use form::{alias, simple_check};
 use json_scan::Scan;
 use name::Full;
 use row::write::{push, push_both};
@@ -125,14 +125,9 @@ fn put_alias(
     requires { (length text.now ≤ longest) × Known text.now ends.now }
     ensures { Did draft.old counts draft.new result (alias_rows text.now namespace.now depth at) }
 {
-    match alias(text, ends, namespace, at, word, full) {
-        Err(f) => Err(f),
-        Ok(n) => {
-            let all = &full[..];
-            let next = put(draft, counts, Kind::Alias, depth, at, &all[0..n]);
-            Ok(next)
-        }
-    }
+    let n = alias(text, ends, namespace, at, word, full)?;
+    let all = &full[..];
+    Ok(put(draft, counts, Kind::Alias, depth, at, &all[0..n]))
 }
 
 // Those from a place on, in the definition's own namespace.
@@ -152,18 +147,11 @@ pub(crate) fn put_aliases(
     let mut full: [u8; Full::LONGEST] = [0; Full::LONGEST];
     let mut sum = counts;
     let mut spot = first;
-    loop {
-        let Some(p) = spot else {
-            return Ok(sum);
-        };
-        match put_alias(text, ends, namespace, word, &mut full, draft, sum, depth, p) {
-            Err(f) => return Err(f),
-            Ok(next) => {
-                sum = next;
-            }
-        }
+    while let Some(p) = spot {
+        sum = put_alias(text, ends, namespace, word, &mut full, draft, sum, depth, p)?;
         spot = next_element(text, ends, p);
     }
+    Ok(sum)
 }
 
 // ---- aliases of a field
@@ -180,13 +168,8 @@ fn put_field_alias(
     requires { (length text.now ≤ longest) × Known text.now ends.now }
     ensures { Did draft.old counts draft.new result (field_alias_rows text.now depth at) }
 {
-    match simple_check(text, ends, at, word) {
-        Err(f) => Err(f),
-        Ok(()) => {
-            let next = put_string(text, ends, Kind::FieldAlias, depth, at, draft, counts, word);
-            Ok(next)
-        }
-    }
+    simple_check(text, ends, at, word)?;
+    Ok(put_string(text, ends, Kind::FieldAlias, depth, at, draft, counts, word))
 }
 
 // Those from a place on.
@@ -204,18 +187,11 @@ pub(crate) fn put_field_aliases(
 {
     let mut sum = counts;
     let mut spot = first;
-    loop {
-        let Some(p) = spot else {
-            return Ok(sum);
-        };
-        match put_field_alias(text, ends, depth, p, draft, sum, word) {
-            Err(f) => return Err(f),
-            Ok(next) => {
-                sum = next;
-            }
-        }
+    while let Some(p) = spot {
+        sum = put_field_alias(text, ends, depth, p, draft, sum, word)?;
         spot = next_element(text, ends, p);
     }
+    Ok(sum)
 }
 
 // ---- the symbols of an enum, which were checked
@@ -234,11 +210,9 @@ pub(crate) fn put_symbols(
 {
     let mut sum = counts;
     let mut spot = first_element(text, array);
-    loop {
-        let Some(p) = spot else {
-            return Ok(sum);
-        };
+    while let Some(p) = spot {
         sum = put_string(text, ends, Kind::Symbol, depth, p, draft, sum, word);
         spot = next_element(text, ends, p);
     }
+    Ok(sum)
 }

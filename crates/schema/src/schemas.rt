@@ -11,11 +11,11 @@ ghost use Rattle.seen.specs.Seen.{Sized};
 use super::definitions::{define, put_enum, put_fixed};
 use super::fields::{named_apart, put_field_head};
 use super::names::put;
-use super::walked::{Defined, Walked};
+use super::walked::Walked;
 use super::words::put_word;
 use answer::{Counts, Fault, Why};
 use form::note::Note;
-use form::{Check, Form, as_array, find, is_object};
+use form::{Form, as_array, find, is_object};
 use json_scan::Scan;
 use name::{Full, namespace_part};
 use row::Kind;
@@ -127,9 +127,7 @@ fn put_part(
     requires { Asks text.now (depth + 1) left × (at < 65536) × Known text.now ends.now × Sized table.old }
     ensures { Did draft.old counts draft.new result (part_rows (schema_of left text.now) text.now (around namespace.now standing) kind depth at part (refused (fault missing at))) }
 {
-    if let Err(f) = new_kind(text, ends, standing, kind) {
-        return Err(f);
-    }
+    new_kind(text, ends, standing, kind)?;
     let Some(q) = part else {
         return Err(Fault { why: missing, at });
     };
@@ -167,18 +165,13 @@ fn put_union(
     requires { Asks text.now (depth + 1) left × (at < 65536) × Known text.now ends.now × Sized table.old }
     ensures { Did draft.old counts draft.new result (union_rows (schema_of left text.now) text.now (around namespace.now standing) depth at) }
 {
-    if let Err(f) = new_kind(text, ends, standing, Kind::Union) {
-        return Err(f);
-    }
+    new_kind(text, ends, standing, Kind::Union)?;
     let sure = surely_new(text, ends, namespace, at, table, word);
     let mut sum = put(draft, counts, Kind::Union, depth, at, b"");
     let mut spot = first_element(text, at);
-    loop {
-        let Some(p) = spot else {
-            return Ok(sum);
-        };
+    while let Some(p) = spot {
         let member = stands(at, p, sure);
-        match put_schema(
+        sum = put_schema(
             text,
             ends,
             namespace,
@@ -190,14 +183,10 @@ fn put_union(
             sum,
             word,
             table,
-        ) {
-            Err(f) => return Err(f),
-            Ok(next) => {
-                sum = next;
-            }
-        }
+        )?;
         spot = next_element(text, ends, p);
     }
+    Ok(sum)
 }
 
 // The record at `at`: its fields see its own namespace.
@@ -225,7 +214,7 @@ fn put_record(
         precision: 0,
         scale: 0,
     };
-    match define(
+    let defined = define(
         text,
         ends,
         namespace,
@@ -240,32 +229,30 @@ fn put_record(
         members,
         0,
         none,
-    ) {
-        Defined::Bad(f) => Err(f),
-        Defined::As(n, next) => {
-            let fields = members.fields;
-            let Some(v) = as_array(text, fields) else {
-                return Err(Fault {
-                    why: Why::FieldsMissing,
-                    at,
-                });
-            };
-            let all = &full[..];
-            let own = namespace_part(&all[0..n]);
-            put_fields(
-                text,
-                ends,
-                own,
-                v,
-                depth + 1,
-                left,
-                draft,
-                next,
-                word,
-                table,
-            )
-        }
-    }
+    )?;
+    let fields = members.fields;
+    let Some(v) = as_array(text, fields) else {
+        return Err(Fault {
+            why: Why::FieldsMissing,
+            at,
+        });
+    };
+    let n = defined.name;
+    let next = defined.next;
+    let all = &full[..];
+    let own = namespace_part(&all[0..n]);
+    put_fields(
+        text,
+        ends,
+        own,
+        v,
+        depth + 1,
+        left,
+        draft,
+        next,
+        word,
+        table,
+    )
 }
 
 // The fields in the array, and then their names in order.
@@ -287,20 +274,13 @@ fn put_fields(
 {
     let mut sum = counts;
     let mut spot = first_element(text, array);
-    loop {
-        let Some(p) = spot else {
-            return named_apart(text, ends, array, sum, table);
-        };
-        match put_field(
+    while let Some(p) = spot {
+        sum = put_field(
             text, ends, namespace, p, depth, left, draft, sum, word, table,
-        ) {
-            Err(f) => return Err(f),
-            Ok(next) => {
-                sum = next;
-            }
-        }
+        )?;
         spot = next_element(text, ends, p);
     }
+    named_apart(text, ends, array, sum, table)
 }
 
 // The field at `at`, and its type; what is no object is no field.
@@ -324,29 +304,25 @@ fn put_field(
         return Ok(counts);
     }
     let members = members_at(text, ends, at);
-    match put_field_head(text, ends, depth, at, members, draft, counts, word) {
-        Err(f) => Err(f),
-        Ok(next) => {
-            let typed = members.typed;
-            let Some(q) = typed else {
-                return Err(Fault {
-                    why: Why::TypeMissing,
-                    at,
-                });
-            };
-            put_schema(
-                text,
-                ends,
-                namespace,
-                Standing::Alone,
-                q,
-                depth + 1,
-                left,
-                draft,
-                next,
-                word,
-                table,
-            )
-        }
-    }
+    let next = put_field_head(text, ends, depth, at, members, draft, counts, word)?;
+    let typed = members.typed;
+    let Some(q) = typed else {
+        return Err(Fault {
+            why: Why::TypeMissing,
+            at,
+        });
+    };
+    put_schema(
+        text,
+        ends,
+        namespace,
+        Standing::Alone,
+        q,
+        depth + 1,
+        left,
+        draft,
+        next,
+        word,
+        table,
+    )
 }

@@ -6,7 +6,7 @@ pub type Walked = Result<Counts, Fault>;
 
 // A definition's name, its row and its aliases were read: the length of its full name, and the counts.
 #[derive(Clone, Copy)]
-pub enum Defined {
-    As(usize, Counts),
-    Bad(Fault),
+pub struct Defined {
+    pub name: usize,
+    pub next: Counts,
 }

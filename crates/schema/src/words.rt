@@ -13,7 +13,7 @@ use super::names::{entry, put};
 use super::walked::Walked;
 use answer::Counts;
 use form::note::{Note, Plain};
-use form::{Check, Named, decimal_note, reference, word_kind};
+use form::{decimal_note, reference, word_kind};
 use json_scan::Scan;
 use name::Full;
 use row::Kind;
@@ -37,19 +37,10 @@ fn put_reference(
     requires { (length text.now ≤ longest) × Known text.now ends.now }
     ensures { Did draft.old counts draft.new result (reference_rows text.now (around namespace.now standing) depth at) }
 {
-    match reference(text, ends, namespace, at, word, full) {
-        Err(f) => Err(f),
-        Ok(n) => {
-            let all = &full[..];
-            match new_name(text, ends, namespace, standing, &all[0..n], word) {
-                Err(f) => Err(f),
-                Ok(()) => {
-                    let next = put(draft, counts, Kind::Reference, depth, at, &all[0..n]);
-                    Ok(next)
-                }
-            }
-        }
-    }
+    let n = reference(text, ends, namespace, at, word, full)?;
+    let all = &full[..];
+    new_name(text, ends, namespace, standing, &all[0..n], word)?;
+    Ok(put(draft, counts, Kind::Reference, depth, at, &all[0..n]))
 }
 
 // Of bytes alone, the decimal's note.
@@ -83,15 +74,10 @@ fn put_primitive(
     requires { (at < 65536) × Known text.now ends.now }
     ensures { Did draft.old counts draft.new result (primitive_with text.now (around namespace.now standing) depth kind at members) }
 {
-    match new_kind(text, ends, standing, kind) {
-        Err(f) => Err(f),
-        Ok(()) => {
-            let note = note_of(text, ends, kind, members);
-            let row = entry(kind, depth, at, 0, note);
-            let next = push(draft, counts, row, b"");
-            Ok(next)
-        }
-    }
+    new_kind(text, ends, standing, kind)?;
+    let note = note_of(text, ends, kind, members);
+    let row = entry(kind, depth, at, 0, note);
+    Ok(push(draft, counts, row, b""))
 }
 
 // The string at `at`, with the members of the object whose `type` it is.

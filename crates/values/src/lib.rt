@@ -5,4 +5,6 @@ mod members;
 mod shapes;
 
 pub use members::{under_key, under_word};
-pub use shapes::{is_array, is_boolean, is_bytes, is_fixed, is_null, is_number, is_object, is_string, is_whole};
+pub use shapes::{
+    is_array, is_boolean, is_bytes, is_fixed, is_null, is_number, is_object, is_string, is_whole,
+};

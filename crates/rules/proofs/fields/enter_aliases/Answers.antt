@@ -14,8 +14,8 @@ use Rattle.rules.proofs.fields.enter_aliases.Goals as goal
 pub loop-spot-init : goal.loop-spot-init
 loop-spot-init c = (refl, refl)
 
-pub returns-in_default : goal.returns-in_default
-returns-in_default c = entered_done c.args.text.now _ c.loop-spot.invariant.1 c.in_default.is ∙ ap (λ (l : List ℕ). entered_all c.args.table.now (map (string_at c.args.text.now) l)) c.first_alias-spot.ensures
+pub returns : goal.returns
+returns c = entered_done c.args.text.now _ c.loop-spot.invariant.1 c.in_default.is ∙ ap (λ (l : List ℕ). entered_all c.args.table.now (map (string_at c.args.text.now) l)) c.first_alias-spot.ensures
 
 pub enter-requires : goal.enter-requires
 enter-requires c = sized_as c.requires.1 c.loop-spot.invariant.0

@@ -9,8 +9,8 @@ use Rattle.rules.proofs.fields.is_alias.Goals as goal
 pub loop-spot-init : goal.loop-spot-init
 loop-spot-init c = refl
 
-pub returns-in_default : goal.returns-in_default
-returns-in_default c = all_done (Alike c.args.text.now c.args.at) _ c.loop-spot.invariant c.in_default.is ∙ ap (some (Alike c.args.text.now c.args.at)) c.first_alias-spot.ensures ∙ (among_some c.args.text.now c.args.at _)
+pub returns : goal.returns
+returns c = all_done (Alike c.args.text.now c.args.at) _ c.loop-spot.invariant c.in_default.is ∙ ap (some (Alike c.args.text.now c.args.at)) c.first_alias-spot.ensures ∙ (among_some c.args.text.now c.args.at _)
 
 pub returns-then-strings_same : goal.returns-then-strings_same
 returns-then-strings_same c = all_yes (Alike c.args.text.now c.args.at) _ c.loop-spot.invariant c.in-Some.is c.strings_same.ensures c.if-strings_same.true ∙ ap (some (Alike c.args.text.now c.args.at)) c.first_alias-spot.ensures ∙ (among_some c.args.text.now c.args.at _)

@@ -9,8 +9,8 @@ use Rattle.rules.proofs.members.new_until.Goals as goal
 pub loop-spot-init : goal.loop-spot-init
 loop-spot-init c = (refl, going_start _ _ _ c.requires.2 c.first_element-spot.ensures)
 
-pub returns-in_default : goal.returns-in_default
-returns-in_default c = going_done _ _ _ c.loop-spot.invariant.1 c.in_default.is
+pub returns : goal.returns
+returns c = going_done _ _ _ c.loop-spot.invariant.1 c.in_default.is
 
 pub enter_member-requires : goal.enter_member-requires
 enter_member-requires c = (c.requires.0, c.requires.1, c.loop-spot.invariant.1.sized, going_held _ _ _ c.loop-spot.invariant.1 c.in-Some.is)

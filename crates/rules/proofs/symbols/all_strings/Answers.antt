@@ -9,8 +9,8 @@ use Rattle.rules.proofs.symbols.all_strings.Goals as goal
 pub loop-spot-init : goal.loop-spot-init
 loop-spot-init c = ap (strings_of _) (left_start _ _ c.first_element-spot.ensures)
 
-pub returns-in_default : goal.returns-in_default
-returns-in_default c = strings_done _ c.loop-spot.invariant c.in_default.is
+pub returns : goal.returns
+returns c = strings_done _ c.loop-spot.invariant c.in_default.is
 
 pub returns-then-not-is_text : goal.returns-then-not-is_text
 returns-then-not-is_text c = strings_not _ c.loop-spot.invariant c.in-Some.is c.is_text.ensures c.if-not-is_text.true

@@ -13,8 +13,8 @@ use Rattle.rules.proofs.symbols.is_among.Goals as goal
 pub loop-spot-init : goal.loop-spot-init
 loop-spot-init c = ap (λ (l : List ℕ). some (Alike c.args.text.now c.args.at) (before c.args.place l)) (left_start _ _ c.first_element-spot.ensures)
 
-pub returns-in_default : goal.returns-in_default
-returns-in_default c = some_done (Alike c.args.text.now c.args.at) _ _ c.loop-spot.invariant c.in_default.is ∙ (among_some c.args.text.now c.args.at _)
+pub returns : goal.returns
+returns c = some_done (Alike c.args.text.now c.args.at) _ _ c.loop-spot.invariant c.in_default.is ∙ (among_some c.args.text.now c.args.at _)
 
 pub returns-then-p-place : goal.returns-then-p-place
 returns-then-p-place c = some_here (Alike c.args.text.now c.args.at) _ _ c.loop-spot.invariant c.in-Some.is c.if-p-place.true ∙ (among_some c.args.text.now c.args.at _)

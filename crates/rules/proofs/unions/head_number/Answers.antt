@@ -26,5 +26,5 @@ returns-in-EnumOf c = λ namespace. sym (definition_number c.args.text.now names
 pub returns-in-FixedOf : goal.returns-in-FixedOf
 returns-in-FixedOf c = λ namespace. sym (definition_number c.args.text.now namespace _) ∙ ap head_number (head_is c.args.text.now c.args.at c.find-found.ensures namespace c.in-FixedOf.is (head_fixed _ namespace _))
 
-pub returns-in-Err : goal.returns-in-Err
-returns-in-Err c = λ namespace. ap head_number (head_is c.args.text.now c.args.at c.find-found.ensures namespace c.in-Err.is (head_wrong _ namespace _))
+pub returns-in-Wrong : goal.returns-in-Wrong
+returns-in-Wrong c = λ namespace. ap head_number (head_is c.args.text.now c.args.at c.find-found.ensures namespace c.in-Wrong.is (head_wrong _ namespace _))

@@ -15,8 +15,8 @@ use Rattle.rules.proofs.unions.is_new_kind.Goals as goal
 pub loop-spot-init : goal.loop-spot-init
 loop-spot-init c = ap (λ (l : List ℕ). some (Numbered c.args.text.now c.number-number.result) (before c.args.member l)) (left_start _ _ c.first_element-spot.ensures)
 
-pub returns-in_default : goal.returns-in_default
-returns-in_default c = λ namespace. ap not (some_done (Numbered c.args.text.now c.number-number.result) _ _ c.loop-spot.invariant c.in_default.is) ∙ kind_some_new c.args.text.now namespace c.args.kind c.number-number.ensures _
+pub returns : goal.returns
+returns c = λ namespace. ap not (some_done (Numbered c.args.text.now c.number-number.result) _ _ c.loop-spot.invariant c.in_default.is) ∙ kind_some_new c.args.text.now namespace c.args.kind c.number-number.ensures _
 
 pub returns-then-p-member : goal.returns-then-p-member
 returns-then-p-member c = λ namespace. ap not (some_here (Numbered c.args.text.now c.number-number.result) _ _ c.loop-spot.invariant c.in-Some.is c.if-p-member.true) ∙ kind_some_new c.args.text.now namespace c.args.kind c.number-number.ensures _

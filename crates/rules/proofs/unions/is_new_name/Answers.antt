@@ -14,8 +14,8 @@ use Rattle.rules.proofs.unions.is_new_name.Goals as goal
 pub loop-spot-init : goal.loop-spot-init
 loop-spot-init c = ap (λ (l : List ℕ). some (Clashes c.args.text.now c.args.namespace.now (called c.args.name.now)) (before c.args.member l)) (left_start _ _ c.first_element-spot.ensures)
 
-pub returns-in_default : goal.returns-in_default
-returns-in_default c = ap not (some_done (Clashes c.args.text.now c.args.namespace.now (called c.args.name.now)) _ _ c.loop-spot.invariant c.in_default.is) ∙ new_some c.args.text.now c.args.namespace.now (called c.args.name.now) _
+pub returns : goal.returns
+returns c = ap not (some_done (Clashes c.args.text.now c.args.namespace.now (called c.args.name.now)) _ _ c.loop-spot.invariant c.in_default.is) ∙ new_some c.args.text.now c.args.namespace.now (called c.args.name.now) _
 
 pub returns-then-p-member : goal.returns-then-p-member
 returns-then-p-member c = ap not (some_here (Clashes c.args.text.now c.args.namespace.now (called c.args.name.now)) _ _ c.loop-spot.invariant c.in-Some.is c.if-p-member.true) ∙ new_some c.args.text.now c.args.namespace.now (called c.args.name.now) _

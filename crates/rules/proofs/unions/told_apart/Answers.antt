@@ -25,5 +25,5 @@ returns-in-EnumOf c = apart_is _ (definition_called c.args.text.now c.args.names
 pub returns-in-FixedOf : goal.returns-in-FixedOf
 returns-in-FixedOf c = apart_is _ (definition_called c.args.text.now c.args.namespace.now _ ∙ definition_is c.args.text.now c.args.at c.find-found.ensures c.args.namespace.now c.in-FixedOf.is (head_fixed _ _ _)) (apart_called _ _ c.definition_full-in-FixedOf.ensures c.by_name-in-FixedOf.ensures)
 
-pub returns-in-Err : goal.returns-in-Err
-returns-in-Err c = apart_is _ (head_is c.args.text.now c.args.at c.find-found.ensures c.args.namespace.now c.in-Err.is (head_wrong _ _ _)) (apart_none _ c.full_name.ensures c.by_name-in-Err.ensures)
+pub returns-in-Wrong : goal.returns-in-Wrong
+returns-in-Wrong c = apart_is _ (head_is c.args.text.now c.args.at c.find-found.ensures c.args.namespace.now c.in-Wrong.is (head_wrong _ _ _)) (apart_none _ c.full_name.ensures c.by_name-in-Wrong.ensures)

@@ -14,8 +14,8 @@ use Rattle.schema.proofs.names.put_symbols.Goals as goal
 pub loop-spot-init : goal.loop-spot-init
 loop-spot-init c = (refl, within_start _ _ c.first_element-spot.ensures, λ m r d. d)
 
-pub returns-in_default : goal.returns-in_default
-returns-in_default c = did_eq (ap (each _) (sym (left_start _ _ c.first_element-spot.ensures))) (c.loop-spot.invariant.2 _ _ (did_eq (each_done _ _ c.in_default.is) (did_none _ _)))
+pub returns : goal.returns
+returns c = did_eq (ap (each _) (sym (left_start _ _ c.first_element-spot.ensures))) (c.loop-spot.invariant.2 _ _ (did_eq (each_done _ _ c.in_default.is) (did_none _ _)))
 
 pub put_string-sum-requires : goal.put_string-sum-requires
 put_string-sum-requires c = let h = within_first _ c.loop-spot.invariant.1 c.in-Some.is in (omega arith, omega arith, search rules)
