@@ -23,7 +23,7 @@ use resolve::is_kind;
 use row::Kind;
 use row::read::{depth_at, kind_number, string_of};
 use values::{is_array, is_object, under_key, under_word};
-use view::{Entry, first_element, first_member, next_element, next_member};
+use view::{Member, first_element, first_member, next_element, next_member};
 
 // An array, each of whose elements fits the type at a row.
 #[cycle(any_array_field_fits_at_map_nested_one_plain_record_of_some_one)]
@@ -46,15 +46,13 @@ fn array(
         return false;
     }
     let mut spot = first_element(text, at);
-    loop {
-        let Some(p) = spot else {
-            return true;
-        };
+    while let Some(p) = spot {
         if !fits_at(mem, n, text, ends, verdicts, found, left, items, p) {
             return false;
         }
         spot = next_element(text, ends, p);
     }
+    true
 }
 
 // An object, under each of whose keys the value that counts fits the type at a row.
@@ -78,10 +76,7 @@ fn map(
         return false;
     }
     let mut entry = first_member(text, ends, at);
-    loop {
-        let Entry::Of(key, value) = entry else {
-            return true;
-        };
+    while let Some(Member { key, value }) = entry {
         let Some(v) = under_key(text, ends, at, key) else {
             return false;
         };
@@ -90,6 +85,7 @@ fn map(
         }
         entry = next_member(text, ends, value);
     }
+    true
 }
 
 // A row, if it is a field: its value in the object at `at` fits its type, or it has none and a default.

@@ -4,7 +4,7 @@ ghost use Rattle.view.specs.Known.{Known};
 ghost use Rattle.view.specs.Strings.{string_at};
 ghost use Rattle.view.specs.Members.{member};
 
-use view::{Entry, first_member, next_member, string_is, strings_same};
+use view::{Member, first_member, next_member, string_is, strings_same};
 
 // The value, where the key is the one looked for; else what was found before.
 fn found_if(is: bool, value: usize, found: Option<usize>) -> Option<usize>
@@ -23,14 +23,12 @@ pub fn under_word(text: &[u8], ends: &[u16], at: usize, word: &[u8]) -> Option<u
 {
     let mut found = None;
     let mut entry = first_member(text, ends, at);
-    loop {
-        let Entry::Of(key, value) = entry else {
-            return found;
-        };
+    while let Some(Member { key, value }) = entry {
         let is = string_is(text, ends, key, word);
         found = found_if(is, value, found);
         entry = next_member(text, ends, value);
     }
+    found
 }
 
 // The value under the key that stands at a place, in the object at `at`.
@@ -40,12 +38,10 @@ pub fn under_key(text: &[u8], ends: &[u16], at: usize, place: usize) -> Option<u
 {
     let mut found = None;
     let mut entry = first_member(text, ends, at);
-    loop {
-        let Entry::Of(key, value) = entry else {
-            return found;
-        };
+    while let Some(Member { key, value }) = entry {
         let is = strings_same(text, ends, key, place);
         found = found_if(is, value, found);
         entry = next_member(text, ends, value);
     }
+    found
 }

@@ -5,7 +5,7 @@ ghost use Rattle.values.specs.Values.{is_null, is_boolean, is_number, is_string,
 ghost use Rattle.values.specs.Steps.{narrow_size};
 
 use ground::byte_at;
-use view::{Step, next_byte, opening, size_literal};
+use view::{next_byte, opening, size_literal};
 
 pub fn is_null(text: &[u8], at: usize) -> bool
     ensures { result ≡ is_null text.now at }
@@ -83,10 +83,7 @@ fn narrow_size(text: &[u8], at: usize) -> Option<u64>
 {
     let mut c = opening(text, at);
     let mut n: u64 = 0;
-    loop {
-        let Step::Byte(b, next) = next_byte(text, c) else {
-            return Some(n);
-        };
+    while let Some((b, next)) = next_byte(text, c) {
         if 0xc4 <= b {
             return None;
         }
@@ -96,6 +93,7 @@ fn narrow_size(text: &[u8], at: usize) -> Option<u64>
         }
         n += 1;
     }
+    Some(n)
 }
 
 pub fn is_bytes(text: &[u8], at: usize) -> bool

@@ -30,8 +30,8 @@ array-returns-then-not-is_array t c = (then_false c.is_array.ensures c.if-not-is
 pub array-loop-spot-init : goal.array-loop-spot-init
 array-loop-spot-init t c = (refl, refl, each_start _ _ _ c.first_element-spot.ensures, c.requires.3, c.requires.4)
 
-pub array-returns-in_default : goal.array-returns-in_default
-array-returns-in_default t c = (then_true c.is_array.ensures c.if-not-is_array.false (each_done _ _ c.loop-spot.invariant.2 c.in_default.is), c.loop-spot.invariant.3, c.loop-spot.invariant.4)
+pub array-returns : goal.array-returns
+array-returns t c = (then_true c.is_array.ensures c.if-not-is_array.false (each_done _ _ c.loop-spot.invariant.2 c.in_default.is), c.loop-spot.invariant.3, c.loop-spot.invariant.4)
 
 pub array-fits_at-requires : goal.array-fits_at-requires
 array-fits_at-requires t c = (omega (arith, c.decreases), (c.requires.0, c.requires.1, c.requires.2, c.loop-spot.invariant.3, c.loop-spot.invariant.4, omega (arith, c.requires.5)))
@@ -78,8 +78,8 @@ map-returns-then-not-is_object t c = (then_false c.is_object.ensures c.if-not-is
 pub map-loop-entry-init : goal.map-loop-entry-init
 map-loop-entry-init t c = (refl, refl, visit_start _ _ _ c.first_member-entry.ensures, c.requires.3, c.requires.4)
 
-pub map-returns-in_default : goal.map-returns-in_default
-map-returns-in_default t c = (then_true c.is_object.ensures c.if-not-is_object.false (visit_end _ _ c.loop-entry.invariant.2 c.in_default.is), c.loop-entry.invariant.3, c.loop-entry.invariant.4)
+pub map-returns : goal.map-returns
+map-returns t c = (then_true c.is_object.ensures c.if-not-is_object.false (visit_end _ _ c.loop-entry.invariant.2 c.in_default.is), c.loop-entry.invariant.3, c.loop-entry.invariant.4)
 
 pub map-returns-in_default-under_key : goal.map-returns-in_default-under_key
 map-returns-in_default-under_key t c = (then_true c.is_object.ensures c.if-not-is_object.false (visit_bad _ _ c.loop-entry.invariant.2 c.in-Some.is (member_none _ _ _ _ _ c.under_key.ensures c.in_default-under_key.is) refl), c.loop-entry.invariant.3, c.loop-entry.invariant.4)
@@ -94,7 +94,7 @@ pub map-shape_of-found-then-not-fits_at : goal.map-shape_of-found-then-not-fits_
 map-shape_of-found-then-not-fits_at t c = c.fits_at.auto.found ∙ c.loop-entry.invariant.1
 
 pub map-returns-then-not-fits_at : goal.map-returns-then-not-fits_at
-map-returns-then-not-fits_at t c = (then_true c.is_object.ensures c.if-not-is_object.false (visit_bad _ _ c.loop-entry.invariant.2 c.in-Some.is (member_value _ _ _ _ _ c.under_key.ensures c.in-Some.is c.fits_at.ensures.0) c.if-not-fits_at.true), c.fits_at.ensures.1, c.fits_at.ensures.2)
+map-returns-then-not-fits_at t c = (then_true c.is_object.ensures c.if-not-is_object.false (visit_bad _ _ c.loop-entry.invariant.2 c.in-Some.is (member_value _ _ _ _ _ c.under_key.ensures c.in-Some-under_key.is c.fits_at.ensures.0) c.if-not-fits_at.true), c.fits_at.ensures.1, c.fits_at.ensures.2)
 
 pub map-next_member-entry-requires : goal.map-next_member-entry-requires
 map-next_member-entry-requires t c = c.requires.2
@@ -103,7 +103,7 @@ pub map-loop-entry-smaller : goal.map-loop-entry-smaller
 map-loop-entry-smaller t c = pass_less _ c.loop-entry.invariant.2.true_entry c.in-Some.is c.next_member-entry.ensures
 
 pub map-loop-entry-preserved : goal.map-loop-entry-preserved
-map-loop-entry-preserved t c = (c.fits_at.auto.verdicts ∙ c.loop-entry.invariant.0, c.fits_at.auto.found ∙ c.loop-entry.invariant.1, visit_on _ _ c.loop-entry.invariant.2 c.in-Some.is (member_value _ _ _ _ _ c.under_key.ensures c.in-Some.is c.fits_at.ensures.0) c.if-not-fits_at.false c.next_member-entry.ensures, c.fits_at.ensures.1, c.fits_at.ensures.2)
+map-loop-entry-preserved t c = (c.fits_at.auto.verdicts ∙ c.loop-entry.invariant.0, c.fits_at.auto.found ∙ c.loop-entry.invariant.1, visit_on _ _ c.loop-entry.invariant.2 c.in-Some.is (member_value _ _ _ _ _ c.under_key.ensures c.in-Some-under_key.is c.fits_at.ensures.0) c.if-not-fits_at.false c.next_member-entry.ensures, c.fits_at.ensures.1, c.fits_at.ensures.2)
 
 pub nested-array-requires : goal.nested-array-requires
 nested-array-requires t c = (omega (arith, c.decreases), (c.requires.0, c.requires.1, c.requires.2, c.requires.3, c.requires.4, omega (arith, c.requires.5)))

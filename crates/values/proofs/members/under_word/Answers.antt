@@ -7,8 +7,8 @@ use Rattle.values.proofs.members.under_word.Goals as goal
 pub loop-entry-init : goal.loop-entry-init
 loop-entry-init c = seek_start _ _ _ c.first_member-entry.ensures
 
-pub returns-in_default : goal.returns-in_default
-returns-in_default c = seek_end _ _ _ c.loop-entry.invariant c.in_default.is
+pub returns : goal.returns
+returns c = seek_end _ _ _ c.loop-entry.invariant c.in_default.is
 
 pub loop-entry-smaller : goal.loop-entry-smaller
 loop-entry-smaller c = pass_less _ c.loop-entry.invariant.true_entry c.in-Some.is c.next_member-entry.ensures

@@ -14,8 +14,8 @@ loop-b-init c = (c.opening-c.ensures.1, ap is_narrow c.opening-c.ensures.0, omeg
 pub next_byte-requires : goal.next_byte-requires
 next_byte-requires c = c.loop-b.invariant.0
 
-pub returns-in_default : goal.returns-in_default
-returns-in_default c = narrow_all _ _ (narrow_end c.next_byte.ensures c.in_default.is c.loop-b.invariant.1) (characters_end c.next_byte.ensures c.in_default.is _ c.loop-b.invariant.2)
+pub returns : goal.returns
+returns c = narrow_all _ _ (narrow_end c.next_byte.ensures c.in_default.is c.loop-b.invariant.1) (characters_end c.next_byte.ensures c.in_default.is _ c.loop-b.invariant.2)
 
 pub returns-then-b-ge196 : goal.returns-then-b-ge196
 returns-then-b-ge196 c = narrow_not _ (narrow_stop c.next_byte.ensures c.in-Some.is c.if-b-ge196.true c.loop-b.invariant.1)
