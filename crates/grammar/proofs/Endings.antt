@@ -7,13 +7,13 @@ use native.Mathlib.Omega.{arith}
 use Rattle.std.specs.Prelude.{Ok, Err}
 use Rattle.answer.specs.declared.refusal.Why.{Why}
 use Rattle.answer.specs.declared.refusal.Why.TheVariants.{NotJson}
-use Rattle.json_scan.specs.Json.{Mode, Stack, Move, go, die, step, whole, run, onward, fault, verdict, val, Found}
+use Rattle.json_scan.specs.Json.{Mode, Stack, Move, go, die, step, whole, run, onward, fault, verdict, val, Verdict}
 
 pub data Ending : Type 0 where
   taken : Ending
   refused : Why → Ending
 
-abbrev pub ending_of : Found → Ending
+abbrev pub ending_of : Verdict → Ending
 ending_of (Ok u) = taken
 ending_of (Err f) = refused f.why
 
@@ -47,7 +47,7 @@ module _ (t : List ℕ) where
   pub whole_of : ending val [] t ≡ taken → verdict t ≡ Ok tt
   whole_of h = cases (verdict t) (verdict_ending ∙ h)
     where
-      cases : (v : Found) → ending_of v ≡ taken → v ≡ Ok tt
+      cases : (v : Verdict) → ending_of v ≡ taken → v ≡ Ok tt
       cases (Ok u) e = refl
       cases (Err f) e = let z : ◌≡◌ {A = ℕ} 0 1 = cc in absurd (no z)
         where
@@ -57,7 +57,7 @@ module _ (t : List ℕ) where
   pub fault_of_lem : (w : Why) → ending val [] t ≡ refused w → (p : ℕ) × (verdict t ≡ fault w p)
   fault_of_lem w h = cases (verdict t) (verdict_ending ∙ h)
     where
-      cases : (v : Found) → ending_of v ≡ refused w → (p : ℕ) × (v ≡ fault w p)
+      cases : (v : Verdict) → ending_of v ≡ refused w → (p : ℕ) × (v ≡ fault w p)
       cases (Ok u) e = let z : ◌≡◌ {A = ℕ} 0 1 = cc in absurd (no z)
         where
           no : ◌≡◌ {A = ℕ} 0 1 → ⊥

@@ -13,7 +13,7 @@ use lib.Seq.{take_at}
 use Rattle.std.specs.Prelude.{Ok, Err}
 use Rattle.answer.specs.declared.refusal.Why.{Why}
 use Rattle.answer.specs.declared.refusal.Why.TheVariants.{TextTooLong, NotJson, NestedTooDeep}
-use Rattle.json_scan.specs.Json.{Mode, Stack, Bracket, square, brace, val, first, done, key0, key, colon, word, num, str, longest, deepest, fault, run, verdict, scanned, start, live, reach, Found}
+use Rattle.json_scan.specs.Json.{Mode, Stack, Bracket, square, brace, val, first, done, key0, key, colon, word, num, str, longest, deepest, fault, run, verdict, scanned, start, live, reach, Verdict}
 use Rattle.json_scan.specs.Meets.{closer}
 use Rattle.json_scan.proofs.Laws.{split, too_long, not_too_long}
 use Rattle.json_scan.proofs.Completion.{closers}
@@ -66,7 +66,7 @@ not_whole w p h = let z : ◌≡◌ {A = ℕ} 0 1 = cc in omega arith
 not_deep : (p q : ℕ) → fault NotJson p ≡ fault NestedTooDeep q → ⊥
 not_deep p q h = let e : NotJson ≡ NestedTooDeep = ap why_of h in apart e
   where
-    why_of : Found → Why
+    why_of : Verdict → Why
     why_of (Ok u) = NotJson
     why_of (Err f) = f.why
 

@@ -10,7 +10,7 @@ use lib.Seq.{take_at, take_all}
 use Rattle.std.specs.Prelude.{Ok, Err}
 use Rattle.answer.specs.declared.refusal.Why.{Why}
 use Rattle.answer.specs.declared.refusal.Why.TheVariants.{NotJson}
-use Rattle.json_scan.specs.Json.{Mode, val, Stack, Move, go, die, step, whole, fault, onward, run, verdict, State, live, moved, reach, run_from, Found}
+use Rattle.json_scan.specs.Json.{Mode, val, Stack, Move, go, die, step, whole, fault, onward, run, verdict, State, live, moved, reach, run_from, Verdict}
 use Rattle.json_scan.proofs.Parts.{verdict_parts}
 use Rattle.json_scan.proofs.Completion.{Shaped, step_leads, Leads, Whole_from, completed}
 
@@ -24,11 +24,11 @@ pub record Stopped (m : Mode) (k : Stack) (p : ℕ) (w : Why) (q : ℕ) (s : Lis
   pub where_at : q ≡ p + length before
   pub how : ((s ≡ before) × (w ≡ NotJson)) ⊎ ((b : ℕ) × (bs : List ℕ) × (s ≡ before ++ b ∷ bs) × (step mode b stack ≡ die w))
 
-abbrev at_of : Found → ℕ
+abbrev at_of : Verdict → ℕ
 at_of (Ok u) = 0
 at_of (Err f) = f.at
 
-abbrev why_of : Found → Why
+abbrev why_of : Verdict → Why
 why_of (Ok u) = NotJson
 why_of (Err f) = f.why
 

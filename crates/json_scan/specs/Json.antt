@@ -232,27 +232,27 @@ whole (num n) k = closes n && bottom k
 whole (str w i) k = false
 
 -- what the scan finds: a whole text, or its first fault
-abbrev pub Found : Type 0
-Found = Result (Unit {0}) Fault
+abbrev pub Verdict : Type 0
+Verdict = Result (Unit {0}) Fault
 
-abbrev pub fault : Why → ℕ → Found
+abbrev pub fault : Why → ℕ → Verdict
 fault w p = Err (record { why = w; at = p })
 
 -- the run over the bytes that stand from place p on
-abbrev pub onward : Move → ℕ → (Mode → Stack → Found) → Found
+abbrev pub onward : Move → ℕ → (Mode → Stack → Verdict) → Verdict
 onward (go m k) p f = f m k
 onward (die w) p f = fault w p
 
-unfoldable pub run : Mode → Stack → ℕ → List ℕ → Found
+unfoldable pub run : Mode → Stack → ℕ → List ℕ → Verdict
 run m k p [] = cond (whole m k) (Ok tt) (fault NotJson p)
 run m k p (b ∷ bs) = onward (step m b k) p (λ m' k'. run m' k' (suc p) bs)
 
 -- the verdict on a text of any length
-unfoldable pub verdict : List ℕ → Found
+unfoldable pub verdict : List ℕ → Verdict
 verdict t = run val [] 0 t
 
 -- the scan: a text that is too long is not read at all
-unfoldable pub scanned : List ℕ → Found
+unfoldable pub scanned : List ℕ → Verdict
 scanned t = cond (ltb longest (length t)) (fault TextTooLong longest) (verdict t)
 
 -- ---- the automaton's state as a value
@@ -277,6 +277,6 @@ reach (live m k p) (b ∷ bs) = reach (moved (step m b k) p) bs
 reach (dead w p) (b ∷ bs) = dead w p
 
 -- the run over bytes from a state on
-abbrev pub run_from : State → List ℕ → Found
+abbrev pub run_from : State → List ℕ → Verdict
 run_from (live m k p) s = run m k p s
 run_from (dead w p) s = fault w p

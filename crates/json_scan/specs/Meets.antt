@@ -2,12 +2,12 @@
 use Rattle.std.specs.Prelude.{ℕ, ◌+◌, ◌≤◌, ◌<◌, max, Bool, true, false, cond, ◌≡◌, List, ◌∷◌, length, get_or, drop, Result, Ok, Err}
 use Rattle.answer.specs.declared.refusal.Fault.{Fault}
 use Rattle.answer.specs.declared.refusal.Why.TheVariants.{NotJson}
-use Rattle.json_scan.specs.Json.{deepest, Mode, Stack, Bracket, Move, go, step, whole, run, is_digit, Place, str, plain, val, done, first, key0, key, square, brace, simple, one, bottom, power, point, wide, Found}
+use Rattle.json_scan.specs.Json.{deepest, Mode, Stack, Bracket, Move, go, step, whole, run, is_digit, Place, str, plain, val, done, first, key0, key, square, brace, simple, one, bottom, power, point, wide, Verdict}
 use Rattle.json_scan.specs.declared.step.More.{More}
 use Rattle.json_scan.specs.declared.step.More.TheVariants.{Again, Closed}
 
 -- the verdict that the automaton comes to from a mode at a place of the text
-unfoldable pub run_at : List ℕ → Mode → Stack → ℕ → Found
+unfoldable pub run_at : List ℕ → Mode → Stack → ℕ → Verdict
 run_at t m k p = run m k p (drop p t)
 
 -- where a reader stopped: past what it read, or at a fault
@@ -15,7 +15,7 @@ abbrev pub Step : Type 0
 Step = Result ℕ Fault
 
 -- the run goes on there in the mode m, or the fault is the verdict
-abbrev pub on_step : List ℕ → Mode → Stack → Step → Found
+abbrev pub on_step : List ℕ → Mode → Stack → Step → Verdict
 on_step t m k (Ok p) = run_at t m k p
 on_step t m k (Err f) = Err f
 
@@ -64,7 +64,7 @@ abbrev pub again : Bracket → Mode
 again square = val
 again brace = key
 
-abbrev pub on_more : List ℕ → Bracket → Stack → Result More Fault → Found
+abbrev pub on_more : List ℕ → Bracket → Stack → Result More Fault → Verdict
 on_more t x k (Ok (Again p)) = run_at t (again x) (x ∷ k) p
 on_more t x k (Ok (Closed p)) = run_at t done k p
 on_more t x k (Err f) = Err f

@@ -5,7 +5,7 @@ use Rattle.ground.specs.Bytes.{byte_at, same}
 use Rattle.decimals.specs.Limits.{limit_of}
 use Rattle.name.specs.Name.{is_empty, is_simple, is_dotted, is_reserved}
 use Rattle.name.specs.Full.{is_short}
-use Rattle.json_scan.specs.Json.{longest, is_space, scanned, Found}
+use Rattle.json_scan.specs.Json.{longest, is_space, scanned, Verdict}
 use Rattle.row.specs.Rows.{Row}
 use Rattle.row.specs.declared.kind.Kind.{Kind}
 use Rattle.row.specs.declared.kind.Kind.TheVariants.{Bytes, Reference, Union, Record, Enum, Fixed, Field, Symbol, Alias, FieldAlias}
@@ -30,7 +30,7 @@ good_text kind text =
     (is_empty text)))
 
 -- the scan has no fault
-unfoldable pub passes : Found → Bool
+unfoldable pub passes : Verdict → Bool
 passes s = is_ok s
 
 -- a kept default: a whole text by the scan, with no white space before or behind its value, of at most 255 bytes

@@ -13,7 +13,7 @@ use borrow.Author.Tests.{ne_eqb}
 use Rattle.std.specs.Prelude.{Ok}
 use Rattle.answer.specs.declared.refusal.Why.{Why}
 use Rattle.answer.specs.declared.refusal.Why.TheVariants.{NotJson}
-use Rattle.json_scan.specs.Json.{Mode, Inside, Place, Stack, Move, Bracket, go, die, as_key, as_value, plain, esc, h1, h2, h2d, h3, h4, g3, g4, g5, g6, g7, g8, tail, val, first, done, key0, key, colon, word, num, str, step, whole, closes, closed, fault, onward, run, Found}
+use Rattle.json_scan.specs.Json.{Mode, Inside, Place, Stack, Move, Bracket, go, die, as_key, as_value, plain, esc, h1, h2, h2d, h3, h4, g3, g4, g5, g6, g7, g8, tail, val, first, done, key0, key, colon, word, num, str, step, whole, closes, closed, fault, onward, run, Verdict}
 use Rattle.view.specs.Ends.{mode_after, depth_after, at_rest, to_rest}
 use Rattle.viewed.proofs.Machine.{never, in_mode, inside_mode, Good, in_string, Stacks, keeps, pushes, pops, Goes, Fits, fits_step}
 
@@ -21,10 +21,10 @@ use Rattle.viewed.proofs.Machine.{never, in_mode, inside_mode, Good, in_string, 
 pub bad : {A : Type 0} {w : Why} {p : ℕ} → fault w p ≡ Ok tt → A
 bad h = let z : ◌≡◌ {A = ℕ} 0 1 = cc in absurd (omega arith)
 
-pub data Lives (x : Move) (f : Mode → Stack → Found) : Type 0 where
+pub data Lives (x : Move) (f : Mode → Stack → Verdict) : Type 0 where
   lives : (m : Mode) (κ : Stack) → x ≡ go m κ → f m κ ≡ Ok tt → Lives x f
 
-onward_lives : (x : Move) (p : ℕ) (f : Mode → Stack → Found) → onward x p f ≡ Ok tt → Lives x f
+onward_lives : (x : Move) (p : ℕ) (f : Mode → Stack → Verdict) → onward x p f ≡ Ok tt → Lives x f
 onward_lives (go m κ) p f h = lives m κ refl h
 onward_lives (die w) p f h = bad h
 
