@@ -58,7 +58,7 @@ const MIDDLING: usize = 8192;
 pub fn declare(text: &[u8], draft: &mut [u8]) -> Walked
     ensures { Did draft.old no_counts draft.new result (declared text.now) }
 {
-    if let Scan::Bad(f) = scan(text) {
+    if let Err(f) = scan(text) {
         return Walked::Bad(f);
     }
     if text.len() <= SHORT {

@@ -6,8 +6,8 @@ use Rattle.view.proofs.Known.{known_none}
 use borrow.Author.Rules.{rules}
 use Rattle.schema.proofs.declare.Goals as goal
 
-pub returns-in-Bad : goal.returns-in-Bad
-returns-in-Bad c = declared_not _ c.scan.ensures c.in-Bad.is
+pub returns-in-Err : goal.returns-in-Err
+returns-in-Err c = declared_not _ c.scan.ensures c.in-Err.is
 
 pub walk-requires : goal.walk-requires
 walk-requires c = (scanned_short _ c.scan.ensures c.in_default.is, known_none _ 2048, search rules)
