@@ -9,13 +9,12 @@ use Prim.Native.Nat.{ℕ, zero, suc, ◌+◌, ◌-◌, ◌≤◌}
 use native.Mathlib.Omega.{arith}
 use lib.ListN.{length}
 use borrow.Author.Tests.{eqb-true, leb-true, not-true}
+use Rattle.std.specs.Prelude.{Ok, Err}
 use Rattle.ground.specs.Bytes.{byte_at}
 use Rattle.ground.proofs.Laws.{never, and_true}
 use Rattle.name.specs.Name.{every}
 use Rattle.name.specs.Full.{kept_limit, is_short}
-use Rattle.json_scan.specs.Json.{deepest, is_space, scanned, verdict}
-use Rattle.json_scan.specs.declared.verdict.Scan.{Scan}
-use Rattle.json_scan.specs.declared.verdict.Scan.TheVariants.{Whole, Bad}
+use Rattle.json_scan.specs.Json.{deepest, is_space, scanned, verdict, Verdict}
 use Rattle.json_scan.proofs.Laws.{not_too_long}
 use Rattle.row.specs.Rows.{Row}
 use Rattle.row.specs.declared.kind.Kind.{Kind}
@@ -146,10 +145,10 @@ unfolding skip_of count byte_at
 starts [] h = refl
 starts (b ∷ bs) h = rw h
 
-whole : (s : Scan) → passes s ≡ true → s ≡ Whole
+whole : (s : Verdict) → passes s ≡ true → s ≡ Ok tt
 unfolding passes
-whole Whole h = refl
-whole (Bad f) h = never h
+whole (Ok u) h = refl
+whole (Err f) h = never h
 
 pub fits_enough : (rows : List Row) (t : List ℕ) → is_default t ≡ true → (type : List Row) (j : ℕ) → fits rows t (suc deepest + j) type 0 ≡ fits rows t (suc deepest) type 0
 unfolding is_default is_short
@@ -158,6 +157,6 @@ fits_enough rows t h type j =
     let b = and_true _ (not (is_space (byte_at t 0))) a.0 in
     let c = and_true _ (passes (scanned t)) b.0 in
     let l = leb-true (length t) kept_limit c.0 in
-    let w : verdict t ≡ Whole = sym (not_too_long t (omega arith)) ∙ whole (scanned t) c.1 in
+    let w : verdict t ≡ Ok tt = sym (not_too_long t (omega arith)) ∙ whole (scanned t) c.1 in
     let z = starts t (not-true _ b.1) in
     fits_more rows t 0 type (record { stack = []; scanned = rw z at (text_scanned t w); least = omega arith; most = omega arith }) j

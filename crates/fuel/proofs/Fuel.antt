@@ -6,8 +6,8 @@ use mathlib.Core.List.{List, []}
 use Prim.Native.Nat.{ℕ, zero, suc, ◌+◌, ◌≤◌}
 use native.Mathlib.Omega.{arith}
 use lib.ListN.{length}
+use Rattle.std.specs.Prelude.{Ok}
 use Rattle.json_scan.specs.Json.{Stack, deepest, verdict}
-use Rattle.json_scan.specs.declared.verdict.Scan.TheVariants.{Whole}
 use Rattle.view.specs.Values.{shape_at, value_start}
 use Rattle.viewed.proofs.Scanned.{Scanned, text_scanned}
 use Rattle.form.specs.declared.forms.Form.{Form}
@@ -80,10 +80,10 @@ module _ (t : List ℕ) where
 
   -- ---- a declaration
 
-  pub enough : verdict t ≡ Whole → (j : ℕ) → schema_of (most_nested + j) t (within []) 0 (value_start t) ≡ rows_of t
+  pub enough : verdict t ≡ Ok tt → (j : ℕ) → schema_of (most_nested + j) t (within []) 0 (value_start t) ≡ rows_of t
   unfolding rows_of
   enough w j = schema_enough (value_start t) [] (text_scanned t w) (omega arith) (within []) 0 j
 
-  pub lasts : verdict t ≡ Whole → (z : Around → ℕ → ℕ → Out) → schema_else z most_nested t (within []) 0 (value_start t) ≡ rows_of t
+  pub lasts : verdict t ≡ Ok tt → (z : Around → ℕ → ℕ → Out) → schema_else z most_nested t (within []) 0 (value_start t) ≡ rows_of t
   unfolding rows_of
   lasts w z = schema_lasts (value_start t) [] (text_scanned t w) (omega arith) z (within []) 0

@@ -4,19 +4,18 @@ use mathlib.Core.Bool.{Bool, true, false, cond}
 use mathlib.Core.List.{List, [], ◌∷◌}
 use Prim.Native.Nat.{ℕ, suc}
 use native.Mathlib.Omega.{arith}
+use Rattle.std.specs.Prelude.{Ok, Err}
 use Rattle.answer.specs.declared.refusal.Why.{Why}
 use Rattle.answer.specs.declared.refusal.Why.TheVariants.{NotJson}
-use Rattle.json_scan.specs.declared.verdict.Scan.{Scan}
-use Rattle.json_scan.specs.declared.verdict.Scan.TheVariants.{Whole, Bad}
-use Rattle.json_scan.specs.Json.{Mode, Stack, Move, go, die, step, whole, run, onward, fault, verdict, val}
+use Rattle.json_scan.specs.Json.{Mode, Stack, Move, go, die, step, whole, run, onward, fault, verdict, val, Verdict}
 
 pub data Ending : Type 0 where
   taken : Ending
   refused : Why → Ending
 
-abbrev pub ending_of : Scan → Ending
-ending_of Whole = taken
-ending_of (Bad f) = refused f.why
+abbrev pub ending_of : Verdict → Ending
+ending_of (Ok u) = taken
+ending_of (Err f) = refused f.why
 
 abbrev pub going : Move → (Mode → Stack → Ending) → Ending
 going (go m k) f = f m k
@@ -30,7 +29,7 @@ pub ending_run : (s : List ℕ) (m : Mode) (k : Stack) (p : ℕ) → ending_of (
 unfolding run ending
 ending_run [] m k p = cases (whole m k)
   where
-    cases : (x : Bool) → ending_of (cond x Whole (fault NotJson p)) ≡ cond x taken (refused NotJson)
+    cases : (x : Bool) → ending_of (cond x (Ok tt) (fault NotJson p)) ≡ cond x taken (refused NotJson)
     cases true = refl
     cases false = refl
 ending_run (b ∷ s) m k p = cases (step m b k) (ending_run s)
@@ -45,12 +44,12 @@ module _ (t : List ℕ) where
   unfolding verdict
   verdict_ending = ending_run t val [] 0
 
-  pub whole_of : ending val [] t ≡ taken → verdict t ≡ Whole
+  pub whole_of : ending val [] t ≡ taken → verdict t ≡ Ok tt
   whole_of h = cases (verdict t) (verdict_ending ∙ h)
     where
-      cases : (v : Scan) → ending_of v ≡ taken → v ≡ Whole
-      cases Whole e = refl
-      cases (Bad f) e = let z : ◌≡◌ {A = ℕ} 0 1 = cc in absurd (no z)
+      cases : (v : Verdict) → ending_of v ≡ taken → v ≡ Ok tt
+      cases (Ok u) e = refl
+      cases (Err f) e = let z : ◌≡◌ {A = ℕ} 0 1 = cc in absurd (no z)
         where
           no : ◌≡◌ {A = ℕ} 0 1 → ⊥
           no z = omega arith
@@ -58,9 +57,9 @@ module _ (t : List ℕ) where
   pub fault_of_lem : (w : Why) → ending val [] t ≡ refused w → (p : ℕ) × (verdict t ≡ fault w p)
   fault_of_lem w h = cases (verdict t) (verdict_ending ∙ h)
     where
-      cases : (v : Scan) → ending_of v ≡ refused w → (p : ℕ) × (v ≡ fault w p)
-      cases Whole e = let z : ◌≡◌ {A = ℕ} 0 1 = cc in absurd (no z)
+      cases : (v : Verdict) → ending_of v ≡ refused w → (p : ℕ) × (v ≡ fault w p)
+      cases (Ok u) e = let z : ◌≡◌ {A = ℕ} 0 1 = cc in absurd (no z)
         where
           no : ◌≡◌ {A = ℕ} 0 1 → ⊥
           no z = omega arith
-      cases (Bad f) e = let i : f.why ≡ w = cc in (f.at, ap (λ (y : Why). fault y f.at) i)
+      cases (Err f) e = let i : f.why ≡ w = cc in (f.at, ap (λ (y : Why). fault y f.at) i)

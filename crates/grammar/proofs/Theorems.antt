@@ -10,12 +10,11 @@ use Prim.Native.Nat.{ℕ, suc, ◌+◌, ◌≤◌, ◌<◌}
 use native.Mathlib.Omega.{arith}
 use lib.ListN.{length, take, length-append}
 use lib.Seq.{take_at}
+use Rattle.std.specs.Prelude.{Ok, Err}
 use Rattle.answer.specs.declared.refusal.Why.{Why}
 use Rattle.answer.specs.declared.refusal.Why.TheVariants.{TextTooLong, NotJson, NestedTooDeep}
-use Rattle.json_scan.specs.Json.{Mode, Stack, Bracket, square, brace, val, first, done, key0, key, colon, word, num, str, longest, deepest, fault, run, verdict, scanned, start, live, reach}
+use Rattle.json_scan.specs.Json.{Mode, Stack, Bracket, square, brace, val, first, done, key0, key, colon, word, num, str, longest, deepest, fault, run, verdict, scanned, start, live, reach, Verdict}
 use Rattle.json_scan.specs.Meets.{closer}
-use Rattle.json_scan.specs.declared.verdict.Scan.{Scan}
-use Rattle.json_scan.specs.declared.verdict.Scan.TheVariants.{Whole, Bad}
 use Rattle.json_scan.proofs.Laws.{split, too_long, not_too_long}
 use Rattle.json_scan.proofs.Completion.{closers}
 use Rattle.json_scan.proofs.Longest.{Longest, longest_prefix}
@@ -29,28 +28,28 @@ use Rattle.grammar.proofs.Nesting.{deeper}
 use Rattle.grammar.proofs.Derived.{left_of_lem, left_reach, text_of, a_bracketed}
 
 -- what the automaton reads as a value within the brackets k is white space, a value of the grammar, and what may follow it there
-pub read_is_grammar : (s : List ℕ) (k : Stack) (p : ℕ) → run val k p s ≡ Whole → Left deepest val k s
+pub read_is_grammar : (s : List ℕ) (k : Stack) (p : ℕ) → run val k p s ≡ Ok tt → Left deepest val k s
 read_is_grammar s k p h = left_of_lem deepest (omega arith) s val k (sym (ending_run s val k p) ∙ ap ending_of h)
 
-pub accepted_is_grammar : (t : List ℕ) → verdict t ≡ Whole → JSON_text deepest t
+pub accepted_is_grammar : (t : List ℕ) → verdict t ≡ Ok tt → JSON_text deepest t
 unfolding verdict
 accepted_is_grammar t h = text_of deepest (read_is_grammar t [] 0 h)
 
 -- a text of the grammar with nesting at most n is accepted where n is at most 64
-pub nested_is_accepted : (n : ℕ) → n ≤ deepest → (t : List ℕ) → JSON_text n t → verdict t ≡ Whole
+pub nested_is_accepted : (n : ℕ) → n ≤ deepest → (t : List ℕ) → JSON_text n t → verdict t ≡ Ok tt
 nested_is_accepted n l t d = ⊎_elim (λ e. whole_of t e) (λ e. absurd e.1) (text_ending {Too = ⊥} n (inl l) d)
 
-pub grammar_is_accepted : (t : List ℕ) → JSON_text deepest t → verdict t ≡ Whole
+pub grammar_is_accepted : (t : List ℕ) → JSON_text deepest t → verdict t ≡ Ok tt
 grammar_is_accepted t d = nested_is_accepted deepest (omega arith) t d
 
-no_scan : (w : Why) (p : ℕ) → fault w p ≡ Whole → ⊥
+no_scan : (w : Why) (p : ℕ) → fault w p ≡ Ok tt → ⊥
 no_scan w p h = let z : ◌≡◌ {A = ℕ} 0 1 = cc in omega arith
 
-pub scanned_is_grammar : (t : List ℕ) → scanned t ≡ Whole → (length t ≤ longest) × JSON_text deepest t
+pub scanned_is_grammar : (t : List ℕ) → scanned t ≡ Ok tt → (length t ≤ longest) × JSON_text deepest t
 scanned_is_grammar t h =
     ⊎_elim (λ l. absurd (no_scan TextTooLong longest (sym (too_long t l) ∙ h))) (λ l. (l, accepted_is_grammar t (sym (not_too_long t l) ∙ h))) (split longest (length t))
 
-pub grammar_is_scanned : (t : List ℕ) → length t ≤ longest → JSON_text deepest t → scanned t ≡ Whole
+pub grammar_is_scanned : (t : List ℕ) → length t ≤ longest → JSON_text deepest t → scanned t ≡ Ok tt
 grammar_is_scanned t l d = not_too_long t l ∙ grammar_is_accepted t d
 
 -- a text that nests at most n deep nests at most n + 1 deep
@@ -58,18 +57,18 @@ pub one_deeper : (n : ℕ) (t : List ℕ) → JSON_text n t → JSON_text (suc n
 one_deeper n t d = deeper n d
 
 -- a JSON text of any nesting is accepted, or refused as too deep
-pub json_or_deep : (n : ℕ) (t : List ℕ) → JSON_text n t → (verdict t ≡ Whole) ⊎ ((p : ℕ) × (verdict t ≡ fault NestedTooDeep p))
+pub json_or_deep : (n : ℕ) (t : List ℕ) → JSON_text n t → (verdict t ≡ Ok tt) ⊎ ((p : ℕ) × (verdict t ≡ fault NestedTooDeep p))
 json_or_deep n t d = ⊎_elim (λ e. inl (whole_of t e)) (λ e. inr (fault_of_lem t NestedTooDeep e.0)) (text_ending {Too = Unit {0}} n (inr tt) d)
 
-not_whole : (w : Why) (p : ℕ) → Whole ≡ fault w p → ⊥
+not_whole : (w : Why) (p : ℕ) → Ok tt ≡ fault w p → ⊥
 not_whole w p h = let z : ◌≡◌ {A = ℕ} 0 1 = cc in omega arith
 
 not_deep : (p q : ℕ) → fault NotJson p ≡ fault NestedTooDeep q → ⊥
 not_deep p q h = let e : NotJson ≡ NestedTooDeep = ap why_of h in apart e
   where
-    why_of : Scan → Why
-    why_of Whole = NotJson
-    why_of (Bad f) = f.why
+    why_of : Verdict → Why
+    why_of (Ok u) = NotJson
+    why_of (Err f) = f.why
 
     apart : NotJson ≡ NestedTooDeep → ⊥
     apart e = let z : ◌≡◌ {A = ℕ} 0 1 = cc in omega arith

@@ -7,10 +7,10 @@ use native.Mathlib.Omega.{arith}
 use borrow.Author.Tests.{eq-eqb, le-leb}
 use lib.ListN.{length}
 use lib.Dec.{ltb, eqb}
+use Rattle.std.specs.Prelude.{Ok}
 use Rattle.answer.specs.declared.refusal.Why.TheVariants.{NotJson, NestedTooDeep}
 use Rattle.json_scan.specs.Json.{deepest, Bracket, square, brace, Place, as_key, as_value, Inside, plain, esc, h1, h2, h2d, h3, h4, g3, g4, g5, g6, g7, g8, tail, Num, minus, nought, int, dot, frac, e, sign, exp, Mode, val, first, done, key0, key, colon, word, num, str, Stack, Move, go, die, inside, is_space, is_digit, is_hex, is_e, is_sign, is_high, is_low, is_short, is_d, spaced, opens, word_of, digit1, simple, begin, next, after, power, point, number, closed, rest, one, wide, text, shut, spelt, step, closes, onward, run, State, live, dead, start, moved, reach}
 use Rattle.json_scan.specs.Meets.{closer}
-use Rattle.json_scan.specs.declared.verdict.Scan.TheVariants.{Whole}
 
 -- the shapes of state that the automaton comes to
 abbrev pub Top : Bracket → Stack → Type 0
@@ -172,13 +172,13 @@ unfoldable pub closers : Stack → List ℕ
 closers [] = []
 closers (x ∷ k) = closer x ∷ closers k
 
-done_close : (k : Stack) (p : ℕ) → run done k p (closers k) ≡ Whole
+done_close : (k : Stack) (p : ℕ) → run done k p (closers k) ≡ Ok tt
 unfolding run closers
 done_close [] p = refl
 done_close (square ∷ k) p = done_close k (suc p)
 done_close (brace ∷ k) p = done_close k (suc p)
 
-num_close : (n : Num) → closes n ≡ true → (k : Stack) (p : ℕ) → run (num n) k p (closers k) ≡ Whole
+num_close : (n : Num) → closes n ≡ true → (k : Stack) (p : ℕ) → run (num n) k p (closers k) ≡ Ok tt
 unfolding run closers number
 num_close minus c k p = absurd (no c)
   where
@@ -211,7 +211,7 @@ num_close exp c (brace ∷ k) p = done_close k (suc p)
 
 -- from the state some text is whole
 abbrev pub Whole_from : Mode → Stack → Type 0
-Whole_from m k = (s : List ℕ) × ((p : ℕ) → run m k p s ≡ Whole)
+Whole_from m k = (s : List ℕ) × ((p : ℕ) → run m k p s ≡ Ok tt)
 
 -- one byte before it
 byte_first : (m : Mode) (k : Stack) (b : ℕ) (m' : Mode) (k' : Stack) → step m b k ≡ go m' k' → Whole_from m' k' → Whole_from m k

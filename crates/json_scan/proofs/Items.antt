@@ -7,21 +7,21 @@ use native.Mathlib.Omega.{arith}
 use borrow.Author.Tests.{ne_eqb, lt-ltb, le-ltb}
 use lib.ListN.{length, get_or}
 use lib.Dec.{eqb}
+use Rattle.std.specs.Prelude.{Result, Ok, Err}
+use Rattle.answer.specs.declared.refusal.Fault.{Fault}
 use Rattle.answer.specs.declared.refusal.Why.TheVariants.{NotJson, NestedTooDeep}
 use Rattle.json_scan.specs.Json.{deepest, Mode, Stack, Bracket, square, brace, Move, go, die, step, whole, is_space, spaced, begin, opens, next, val, first, done, key0, key, shut, one, str, as_key, plain}
-use Rattle.json_scan.specs.Meets.{run_at, on_step, Forth, Reads, ReadsIn, Brackets, Stays, Passes, Follows, Simple, closer, opening, again, on_more, Further}
-use Rattle.json_scan.specs.declared.step.Step.{Step}
-use Rattle.json_scan.specs.declared.step.Step.TheVariants.{Next, Fails}
+use Rattle.json_scan.specs.Meets.{run_at, on_step, Forth, Reads, ReadsIn, Brackets, Stays, Passes, Follows, Simple, closer, opening, again, on_more, Further, Step}
 use Rattle.json_scan.specs.declared.step.More.{More}
-use Rattle.json_scan.specs.declared.step.More.TheVariants.{Again, Closed, Stop}
+use Rattle.json_scan.specs.declared.step.More.TheVariants.{Again, Closed}
 use Rattle.json_scan.proofs.Laws.{inside_of, hop, kill, halt, alike}
 
 pub lt_of_byte : (t : List ℕ) (p b : ℕ) → get_or t p 0 ≡ b → 0 < b → p < length t
 lt_of_byte t p b e h = inside_of t p (omega arith)
 
 pub forth_on : (t : List ℕ) (p q : ℕ) (r : Step) → p ≤ q → Forth t q r → Forth t p r
-forth_on t p q (Next e) h f = (omega arith, f.1)
-forth_on t p q (Fails x) h f = tt
+forth_on t p q (Ok e) h f = (omega arith, f.1)
+forth_on t p q (Err x) h f = tt
 
 -- white space
 pub val_stays : Stays is_space val
@@ -48,7 +48,7 @@ other_step square b k s n m = past_space done b (square ∷ k) _ s ∙ simp (ne_
 other_step brace b k s n m = past_space done b (brace ∷ k) _ s ∙ simp (ne_eqb b 125 n, ne_eqb b 44 m)
 
 module _ (t : List ℕ) (p q close : ℕ) (P : Passes is_space t p q) where
-  pub shut_here : get_or t q 0 ≡ close → 0 < close → Follows t p close (Closed (q + 1))
+  pub shut_here : get_or t q 0 ≡ close → 0 < close → Follows t p close (Ok (Closed (q + 1)))
   shut_here e h =
       let l = lt_of_byte t q close e h in
       let low = P.low in
@@ -57,7 +57,7 @@ module _ (t : List ℕ) (p q close : ℕ) (P : Passes is_space t p q) where
         forth = (omega arith, omega arith);
       }
 
-  pub more_here : get_or t q 0 ≡ 44 → (get_or t q 0 ≡ close → ⊥) → Follows t p close (Again (q + 1))
+  pub more_here : get_or t q 0 ≡ 44 → (get_or t q 0 ≡ close → ⊥) → Follows t p close (Ok (Again (q + 1)))
   more_here e n =
       let l = lt_of_byte t q 44 e (omega arith) in
       let low = P.low in
@@ -66,7 +66,7 @@ module _ (t : List ℕ) (p q close : ℕ) (P : Passes is_space t p q) where
         forth = (omega arith, omega arith);
       }
 
-  pub none_here : (get_or t q 0 ≡ close → ⊥) → (get_or t q 0 ≡ 44 → ⊥) → Follows t p close (Stop (record { why = NotJson; at = q }))
+  pub none_here : (get_or t q 0 ≡ close → ⊥) → (get_or t q 0 ≡ 44 → ⊥) → Follows t p close (Err (record { why = NotJson; at = q }))
   none_here n m = record {
     same = λ x c k. P.same done done_stays (x ∷ k) ∙ halt t done (x ∷ k) q (other_step x (get_or t q 0) k P.past (λ e. n (e ∙ c)) m) refl;
     forth = tt;
@@ -79,7 +79,7 @@ val_step b k s = past_space val b k (begin b k) s
 module _ (t : List ℕ) (p q left : ℕ) (P : Passes is_space t p q) where
   -- an opening bracket: `step val b k` is `opens x m k` at its byte
   module _ (b : ℕ) (x : Bracket) (m : Mode) (e : get_or t q 0 ≡ b) (h : 0 < b) (o : (k : Stack) → step val b k ≡ opens x m k) where
-    pub too_deep : left ≡ 0 → ReadsIn t p left val (Fails (record { why = NestedTooDeep; at = q }))
+    pub too_deep : left ≡ 0 → ReadsIn t p left val (Err (record { why = NestedTooDeep; at = q }))
     too_deep z = record {
       same = λ k f. P.same val val_stays k
           ∙ kill t val k q NestedTooDeep (lt_of_byte t q b e h)
@@ -138,7 +138,7 @@ closer_pos square = omega arith
 closer_pos brace = omega arith
 
 module _ (t : List ℕ) (p q left : ℕ) (x : Bracket) (P : Passes is_space t p q) where
-  pub empty : get_or t q 0 ≡ closer x → Brackets t p left x (opening x) (Next (q + 1))
+  pub empty : get_or t q 0 ≡ closer x → Brackets t p left x (opening x) (Ok (q + 1))
   empty e =
       let l = lt_of_byte t q (closer x) e (closer_pos x) in
       let low = P.low in
@@ -156,28 +156,28 @@ module _ (t : List ℕ) (p q left : ℕ) (x : Bracket) (P : Passes is_space t p 
 
 -- an element, from q to e, and what follows it
 module _ (t : List ℕ) (p q left : ℕ) (x : Bracket) (S : SoFar t p left x q) where
-  pub faulty : (r : Step) → ReadsIn t q left (again x) r → (f : _) → r ≡ Fails f → Brackets t p left x (opening x) (Fails f)
+  pub faulty : (r : Step) → ReadsIn t q left (again x) r → (f : _) → r ≡ Err f → Brackets t p left x (opening x) (Err f)
   faulty r R f e = record {
     same = λ k g. S.same k g ∙ R.same (x ∷ k) (omega arith) ∙ ap (on_step t done (x ∷ k)) e;
     forth = tt;
   }
 
-  module _ (r : Step) (R : ReadsIn t q left (again x) r) (e : ℕ) (E : r ≡ Next e) where
+  module _ (r : Step) (R : ReadsIn t q left (again x) r) (e : ℕ) (E : r ≡ Ok e) where
     forth_e : (q < e) × (e ≤ length t)
     forth_e = subst (Forth t q) E R.forth
 
     to_e : (k : Stack) → length k + 1 + left ≡ deepest → run_at t (opening x) (x ∷ k) p ≡ run_at t done (x ∷ k) e
     to_e k g = S.same k g ∙ R.same (x ∷ k) (omega arith) ∙ ap (on_step t done (x ∷ k)) E
 
-    module _ (w : More) (F : Follows t e (closer x) w) where
-      pub on_again : (a : ℕ) → w ≡ Again a → SoFar t p left x a × (q < a) × (a ≤ length t)
+    module _ (w : Result More Fault) (F : Follows t e (closer x) w) where
+      pub on_again : (a : ℕ) → w ≡ Ok (Again a) → SoFar t p left x a × (q < a) × (a ≤ length t)
       on_again a A =
           let fe = forth_e in
           let fa : (e < a) × (a ≤ length t) = subst (Further t e) A F.forth in
           let low = S.low in
           (record { low = omega arith; same = λ k g. to_e k g ∙ F.same x refl k ∙ ap (on_more t x k) A }, omega arith, fa.1)
 
-      pub on_closed : (a : ℕ) → w ≡ Closed a → Brackets t p left x (opening x) (Next a)
+      pub on_closed : (a : ℕ) → w ≡ Ok (Closed a) → Brackets t p left x (opening x) (Ok a)
       on_closed a A =
           let fe = forth_e in
           let fa : (e < a) × (a ≤ length t) = subst (Further t e) A F.forth in
@@ -187,7 +187,7 @@ module _ (t : List ℕ) (p q left : ℕ) (x : Bracket) (S : SoFar t p left x q) 
             forth = (omega arith, fa.1);
           }
 
-      pub on_stop : (f : _) → w ≡ Stop f → Brackets t p left x (opening x) (Fails f)
+      pub on_stop : (f : _) → w ≡ Err f → Brackets t p left x (opening x) (Err f)
       on_stop f A = record {
         same = λ k g. to_e k g ∙ F.same x refl k ∙ ap (on_more t x k) A;
         forth = tt;
@@ -195,10 +195,10 @@ module _ (t : List ℕ) (p q left : ℕ) (x : Bracket) (S : SoFar t p left x q) 
 
 -- a member: a key, from q to v, and a value
 module _ (t : List ℕ) (q left : ℕ) (r : Step) (K : Reads t q key val r) where
-  pub no_key : (f : _) → r ≡ Fails f → ReadsIn t q left key (Fails f)
+  pub no_key : (f : _) → r ≡ Err f → ReadsIn t q left key (Err f)
   no_key f e = record { same = λ k g. K.same k ∙ ap (on_step t val k) e; forth = tt }
 
-  pub keyed : (v : ℕ) → r ≡ Next v → (s : Step) → ReadsIn t v left val s → ReadsIn t q left key s
+  pub keyed : (v : ℕ) → r ≡ Ok v → (s : Step) → ReadsIn t v left val s → ReadsIn t q left key s
   keyed v e s R =
       let fv : (q < v) × (v ≤ length t) = subst (Forth t q) e K.forth in
       record {

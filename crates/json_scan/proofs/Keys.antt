@@ -6,11 +6,10 @@ use Prim.Native.Nat.{ℕ, ◌+◌, ◌<◌}
 use native.Mathlib.Omega.{arith}
 use lib.ListN.{length, get_or}
 use lib.Dec.{eqb}
+use Rattle.std.specs.Prelude.{Err}
 use Rattle.answer.specs.declared.refusal.Why.TheVariants.{NotJson}
 use Rattle.json_scan.specs.Json.{Mode, Stack, go, die, step, one, is_space, is_byte, str, as_key, plain, num, minus, key, colon, val, done, simple, digit1, number}
-use Rattle.json_scan.specs.Meets.{Reads, one_of, Stays, Passes, Simple}
-use Rattle.json_scan.specs.declared.step.Step.{Step}
-use Rattle.json_scan.specs.declared.step.Step.TheVariants.{Fails}
+use Rattle.json_scan.specs.Meets.{Reads, one_of, Stays, Passes, Simple, Step}
 use Rattle.json_scan.proofs.Laws.{hop, halt, alike}
 use Rattle.json_scan.proofs.Items.{forth_on}
 use Rattle.json_scan.proofs.Readers.{one_reads}
@@ -46,7 +45,7 @@ module _ (t : List ℕ) (p b : ℕ) (e : b ≡ get_or t p 0) where
     forth = R.forth;
   }
 
-  pub simple_bad : ((k : Stack) → simple b k ≡ die NotJson) → Simple t p b (Fails (record { why = NotJson; at = p }))
+  pub simple_bad : ((k : Stack) → simple b k ≡ die NotJson) → Simple t p b (Err (record { why = NotJson; at = p }))
   simple_bad s = record {
     same = λ m k i w. halt t m k p (ap (λ (x : ℕ). step m x k) (sym e) ∙ i ∙ s k) w;
     forth = tt;

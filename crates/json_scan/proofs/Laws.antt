@@ -10,11 +10,11 @@ use native.Mathlib.Omega.{arith}
 use borrow.Author.Tests.{lt-ltb, le-ltb}
 use lib.ListN.{length, get_or, drop_of_length-le, get_or-eq_default}
 use lib.Seq.{drop-cons}
+use Rattle.std.specs.Prelude.{Ok}
 use Rattle.answer.specs.declared.refusal.Why.{Why}
 use Rattle.answer.specs.declared.refusal.Why.TheVariants.{NotJson, TextTooLong}
 use Rattle.json_scan.specs.Json.{Mode, Stack, Move, go, die, step, whole, run, onward, fault, longest, verdict, scanned}
 use Rattle.json_scan.specs.Meets.{run_at}
-use Rattle.json_scan.specs.declared.verdict.Scan.TheVariants.{Whole}
 
 pub split : (a b : ℕ) → (a < b) ⊎ (b ≤ a)
 split a b = elim (dec_lt a b) [ yes h ↦ inl h | no h ↦ inr (omega arith) ]
@@ -31,7 +31,7 @@ module _ (t : List ℕ) (m : Mode) (k : Stack) (p : ℕ) where
   unfolding run_at run
   stepped h = rw (add-one, drop-cons t p 0)
 
-  pub at_end : length t ≤ p → run_at t m k p ≡ cond (whole m k) Whole (fault NotJson p)
+  pub at_end : length t ≤ p → run_at t m k p ≡ cond (whole m k) (Ok tt) (fault NotJson p)
   unfolding run_at run
   at_end h = rw (drop_of_length-le t h)
 
@@ -45,7 +45,7 @@ module _ (t : List ℕ) (m : Mode) (k : Stack) (p : ℕ) where
 
   -- no text has this byte here, nor ends here
   pub halt : step m (get_or t p 0) k ≡ die NotJson → whole m k ≡ false → run_at t m k p ≡ fault NotJson p
-  halt e w = ⊎_elim (λ l. kill NotJson l e) (λ l. at_end l ∙ ap (λ (x : Bool). cond x Whole (fault NotJson p)) w) (split p (length t))
+  halt e w = ⊎_elim (λ l. kill NotJson l e) (λ l. at_end l ∙ ap (λ (x : Bool). cond x (Ok tt) (fault NotJson p)) w) (split p (length t))
 
 -- a mode that does with this byte what another does
 pub alike : (t : List ℕ) (m m' : Mode) (k : Stack) (p : ℕ) → step m (get_or t p 0) k ≡ step m' (get_or t p 0) k → whole m k ≡ whole m' k
@@ -53,7 +53,7 @@ pub alike : (t : List ℕ) (m m' : Mode) (k : Stack) (p : ℕ) → step m (get_o
 alike t m m' k p e w =
     ⊎_elim
     (λ l. stepped t m k p l ∙ ap (λ (x : Move). onward x p (λ m'' k''. run_at t m'' k'' (p + 1))) e ∙ sym (stepped t m' k p l))
-    (λ l. at_end t m k p l ∙ ap (λ (x : Bool). cond x Whole (fault NotJson p)) w ∙ sym (at_end t m' k p l))
+    (λ l. at_end t m k p l ∙ ap (λ (x : Bool). cond x (Ok tt) (fault NotJson p)) w ∙ sym (at_end t m' k p l))
     (split p (length t))
 
 -- a text that is too long, and one that is not

@@ -7,13 +7,12 @@ use Prim.Native.Nat.{ℕ, suc, ◌+◌, ◌≤◌, ◌<◌}
 use native.Mathlib.Omega.{arith}
 use lib.ListN.{length, take, length-append}
 use lib.Seq.{take_at, take_all}
+use Rattle.std.specs.Prelude.{Ok, Err}
 use Rattle.answer.specs.declared.refusal.Why.{Why}
 use Rattle.answer.specs.declared.refusal.Why.TheVariants.{NotJson}
-use Rattle.json_scan.specs.Json.{Mode, val, Stack, Move, go, die, step, whole, fault, onward, run, verdict, State, live, moved, reach, run_from}
+use Rattle.json_scan.specs.Json.{Mode, val, Stack, Move, go, die, step, whole, fault, onward, run, verdict, State, live, moved, reach, run_from, Verdict}
 use Rattle.json_scan.proofs.Parts.{verdict_parts}
 use Rattle.json_scan.proofs.Completion.{Shaped, step_leads, Leads, Whole_from, completed}
-use Rattle.json_scan.specs.declared.verdict.Scan.{Scan}
-use Rattle.json_scan.specs.declared.verdict.Scan.TheVariants.{Whole, Bad}
 
 -- how a run came to the fault w at q: after the bytes `before`, which lead to a live state, the text ends, or has a byte at which the state dies
 pub record Stopped (m : Mode) (k : Stack) (p : ℕ) (w : Why) (q : ℕ) (s : List ℕ) : Type 0 where
@@ -25,22 +24,22 @@ pub record Stopped (m : Mode) (k : Stack) (p : ℕ) (w : Why) (q : ℕ) (s : Lis
   pub where_at : q ≡ p + length before
   pub how : ((s ≡ before) × (w ≡ NotJson)) ⊎ ((b : ℕ) × (bs : List ℕ) × (s ≡ before ++ b ∷ bs) × (step mode b stack ≡ die w))
 
-abbrev at_of : Scan → ℕ
-at_of Whole = 0
-at_of (Bad f) = f.at
+abbrev at_of : Verdict → ℕ
+at_of (Ok u) = 0
+at_of (Err f) = f.at
 
-abbrev why_of : Scan → Why
-why_of Whole = NotJson
-why_of (Bad f) = f.why
+abbrev why_of : Verdict → Why
+why_of (Ok u) = NotJson
+why_of (Err f) = f.why
 
-not_whole : (w : Why) (q : ℕ) → Whole ≡ fault w q → ⊥
+not_whole : (w : Why) (q : ℕ) → Ok tt ≡ fault w q → ⊥
 not_whole w q h = let z : ◌≡◌ {A = ℕ} 0 1 = cc in omega arith
 
 pub stopped : (s : List ℕ) (m : Mode) (k : Stack) (p : ℕ) (w : Why) (q : ℕ) → Shaped m k → run m k p s ≡ fault w q → Stopped m k p w q s
 unfolding run reach
 stopped [] m k p w q sh h = cases (whole m k) h
   where
-    cases : (x : Bool) → cond x Whole (fault NotJson p) ≡ fault w q → Stopped m k p w q []
+    cases : (x : Bool) → cond x (Ok tt) (fault NotJson p) ≡ fault w q → Stopped m k p w q []
     cases true g = absurd (not_whole w q g)
     cases false g =
         let i : p ≡ q = ap at_of g in
@@ -80,7 +79,7 @@ pub record Longest (t : List ℕ) (w : Why) (p : ℕ) : Type 0 where
   -- it stands within the text, or at its end
   pub low : p ≤ length t
   -- some whole text begins with the bytes before it
-  pub before : (s : List ℕ) × (verdict (take p t ++ s) ≡ Whole)
+  pub before : (s : List ℕ) × (verdict (take p t ++ s) ≡ Ok tt)
   -- no whole text begins with the bytes up to it: each such text has the same fault
   pub none : p < length t → (u : List ℕ) → verdict (take (suc p) t ++ u) ≡ fault w p
 
@@ -103,7 +102,7 @@ longest_prefix t w p h = ⊎_elim (λ x. at_the_end x.0) within S.how
     from_here : (u : List ℕ) → verdict (B ++ u) ≡ run S.mode S.stack p u
     from_here u = verdict_parts B u ∙ ap (λ (s : State). run_from s u) S.led
 
-    whole_from : take p t ≡ B → (s : List ℕ) × (verdict (take p t ++ s) ≡ Whole)
+    whole_from : take p t ≡ B → (s : List ℕ) × (verdict (take p t ++ s) ≡ Ok tt)
     whole_from i = (W.0, ap (λ (x : List ℕ). verdict (x ++ W.0)) i ∙ from_here W.0 ∙ W.1 p)
 
     at_the_end : t ≡ B → Longest t w p

@@ -8,21 +8,20 @@ use native.Mathlib.Omega.{arith}
 use borrow.Author.Tests.{ne_eqb, le-leb, lt-leb}
 use lib.ListN.{length, get_or}
 use lib.Dec.{T}
+use Rattle.std.specs.Prelude.{Ok, Err}
 use Rattle.answer.specs.declared.refusal.Why.TheVariants.{NotJson}
 use Rattle.json_scan.specs.Json.{Mode, Stack, go, die, step, one, inside, is_digit, is_e, is_sign, num, minus, nought, int, dot, frac, e, sign, exp, number, after, power, point, done, digit1}
-use Rattle.json_scan.specs.Meets.{run_at, on_step, Forth, Onward, Reads, Takes, one_of, Stays, Passes, Digits, Past, Like, Ends}
-use Rattle.json_scan.specs.declared.step.Step.{Step}
-use Rattle.json_scan.specs.declared.step.Step.TheVariants.{Next, Fails}
+use Rattle.json_scan.specs.Meets.{run_at, on_step, Forth, Onward, Reads, Takes, one_of, Stays, Passes, Digits, Past, Like, Ends, Step}
 use Rattle.answer.specs.declared.refusal.Fault.{Fault}
 use Rattle.json_scan.proofs.Laws.{split, hop, alike}
 use Rattle.json_scan.proofs.Readers.{lt_of_class, one_reads, onward_on, onward_of}
 
 -- a digit, from p to q, and all the digits that follow, to d
 module _ (t : List ℕ) (p : ℕ) (r : Step) (o : r ≡ one_of is_digit t p) where
-  pub digits_on : (q : ℕ) → r ≡ Next q → (d : ℕ) → Passes is_digit t q d → Digits t p (Next d)
+  pub digits_on : (q : ℕ) → r ≡ Ok q → (d : ℕ) → Passes is_digit t q d → Digits t p (Ok d)
   unfolding number
   digits_on q n d P =
-      let i : one_of is_digit t p ≡ Next q = sym o ∙ n in
+      let i : one_of is_digit t p ≡ Ok q = sym o ∙ n in
       let f : (p < q) × (q ≤ length t) = subst (Forth t p) i any.forth in
       let low = P.low in
       let high = P.high in
@@ -35,7 +34,7 @@ module _ (t : List ℕ) (p : ℕ) (r : Step) (o : r ≡ one_of is_digit t p) whe
       any : Reads t p (num dot) (num frac) (one_of is_digit t p)
       any = one_reads t p (num dot) is_digit refl (num frac) (λ k. (refl, refl))
 
-  pub digits_bad : (f : Fault) → r ≡ Fails f → Digits t p (Fails f)
+  pub digits_bad : (f : Fault) → r ≡ Err f → Digits t p (Err f)
   digits_bad f n = record {
     same = λ m m' s st k. (one_reads t p m is_digit refl m' s).same k ∙ ap (on_step t m' k) (sym o ∙ n);
     forth = tt;
@@ -65,8 +64,8 @@ frac_like b h k = (ap (λ (x : Bool). cond x (go (num frac) k) (power b k)) h, r
 
 exp_done : (t : List ℕ) (r : Step) → Past t r → (k : Stack) → on_step t (num exp) k r ≡ on_step t done k r
 unfolding number
-exp_done t (Next q) h k = alike t (num exp) done k q (ap (λ (x : Bool). cond x (go (num exp) k) (after (get_or t q 0) k)) h) refl
-exp_done t (Fails f) h k = refl
+exp_done t (Ok q) h k = alike t (num exp) done k q (ap (λ (x : Bool). cond x (go (num exp) k) (after (get_or t q 0) k)) h) refl
+exp_done t (Err f) h k = refl
 
 -- an exponent
 module _ (t : List ℕ) (p : ℕ) (r : Step) where
@@ -95,7 +94,7 @@ module _ (t : List ℕ) (p : ℕ) (r : Step) where
     forth = onward_of t p (p + 1) r (omega arith) R.forth;
   }
 
-pub unpowered : (t : List ℕ) (p : ℕ) → is_e (get_or t p 0) ≡ false → Ends power t p (Next p)
+pub unpowered : (t : List ℕ) (p : ℕ) → is_e (get_or t p 0) ≡ false → Ends power t p (Ok p)
 unpowered t p s = record {
   same = λ m L k. alike t m done k p ((L k).0 ∙ ap (λ (x : Bool). cond x (go (num e) k) (after (get_or t p 0) k)) s) (L k).1;
   forth = (omega arith, omega arith);
@@ -114,7 +113,7 @@ module _ (t : List ℕ) (p : ℕ) where
     unfolding number
     to_frac m L k = hop t m k p (num dot) k l ((L k).0 ∙ ap (λ (x : ℕ). point x k) b) ∙ D.same (num dot) (num frac) (λ k. (refl, refl)) frac_stays k
 
-    pub pointed_on : (q : ℕ) → r ≡ Next q → (s : Step) → Ends power t q s → Ends point t p s
+    pub pointed_on : (q : ℕ) → r ≡ Ok q → (s : Step) → Ends power t q s → Ends point t p s
     pointed_on q n s E =
         let f : (p + 1 < q) × (q ≤ length t) = subst (Forth t (p + 1)) n D.forth in
         let past : is_digit (get_or t q 0) ≡ false = subst (Past t) n D.past in
@@ -124,10 +123,10 @@ module _ (t : List ℕ) (p : ℕ) where
         }
       where
         wider : (s : Step) → p ≤ q → q ≤ length t → Onward t q s → Onward t p s
-        wider (Next y) l h o = (omega arith, omega arith)
-        wider (Fails y) l h o = tt
+        wider (Ok y) l h o = (omega arith, omega arith)
+        wider (Err y) l h o = tt
 
-    pub pointed_bad : (f : Fault) → r ≡ Fails f → Ends point t p (Fails f)
+    pub pointed_bad : (f : Fault) → r ≡ Err f → Ends point t p (Err f)
     pointed_bad f n = record { same = λ m L k. to_frac m L k ∙ ap (on_step t (num frac) k) n; forth = tt }
 
 -- a number from its first digit
@@ -157,7 +156,7 @@ module _ (t : List ℕ) (p : ℕ) where
     to_int : (k : Stack) → run_at t (num minus) k p ≡ on_step t (num int) k r
     to_int = D.same (num minus) (num int) (minus_takes (get_or t p 0) b) int_stays
 
-    pub from_digits : (q : ℕ) → r ≡ Next q → (s : Step) → Ends point t q s → Reads t p (num minus) done s
+    pub from_digits : (q : ℕ) → r ≡ Ok q → (s : Step) → Ends point t q s → Reads t p (num minus) done s
     from_digits q n s E =
         let f : (p < q) × (q ≤ length t) = subst (Forth t p) n D.forth in
         let past : is_digit (get_or t q 0) ≡ false = subst (Past t) n D.past in
@@ -166,7 +165,7 @@ module _ (t : List ℕ) (p : ℕ) where
           forth = onward_on t p q s f.0 f.1 E.forth;
         }
 
-    pub no_digits : (f : Fault) → r ≡ Fails f → Reads t p (num minus) done (Fails f)
+    pub no_digits : (f : Fault) → r ≡ Err f → Reads t p (num minus) done (Err f)
     no_digits f n = record { same = λ k. to_int k ∙ ap (on_step t (num int) k) n; forth = tt }
 
 pub no_digit : (b : ℕ) (k : Stack) → is_digit b ≡ false → digit1 b k ≡ die NotJson

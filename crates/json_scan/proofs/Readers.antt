@@ -10,11 +10,10 @@ use borrow.Author.Tests.{eq-eqb, ne_eqb, lt-leb}
 use lib.ListN.{length, get_or, drop, drop_of_length-le, get_or-eq_default}
 use lib.Seq.{drop-cons}
 use lib.Dec.{T}
+use Rattle.std.specs.Prelude.{Ok, Err}
 use Rattle.answer.specs.declared.refusal.Why.TheVariants.{NotJson}
 use Rattle.json_scan.specs.Json.{Mode, Stack, go, die, step, whole, one, inside, spelt, word, done, fault}
-use Rattle.json_scan.specs.Meets.{run_at, on_step, Forth, Onward, Reads, Takes, took, one_of, then_one}
-use Rattle.json_scan.specs.declared.step.Step.{Step}
-use Rattle.json_scan.specs.declared.step.Step.TheVariants.{Next, Fails}
+use Rattle.json_scan.specs.Meets.{run_at, on_step, Forth, Onward, Reads, Takes, took, one_of, then_one, Step}
 use Rattle.answer.specs.declared.refusal.Fault.{Fault}
 use Rattle.json_scan.proofs.Laws.{split, hop, halt, at_end}
 use Rattle.json_scan.proofs.Items.{forth_on}
@@ -39,10 +38,10 @@ module _ (t : List ℕ) (p : ℕ) (m : Mode) where
     forth = forth_on t p (p + 1) r (omega arith) R.forth;
   }
 
-  pub go_reads : (m' : Mode) → p < length t → ((k : Stack) → step m (get_or t p 0) k ≡ go m' k) → Reads t p m m' (Next (p + 1))
+  pub go_reads : (m' : Mode) → p < length t → ((k : Stack) → step m (get_or t p 0) k ≡ go m' k) → Reads t p m m' (Ok (p + 1))
   go_reads m' l e = record { same = λ k. hop t m k p m' k l (e k); forth = (omega arith, omega arith) }
 
-  pub die_reads : (m' : Mode) → ((k : Stack) → step m (get_or t p 0) k ≡ die NotJson) → ((k : Stack) → whole m k ≡ false) → Reads t p m m' (Fails (record { why = NotJson; at = p }))
+  pub die_reads : (m' : Mode) → ((k : Stack) → step m (get_or t p 0) k ≡ die NotJson) → ((k : Stack) → whole m k ≡ false) → Reads t p m m' (Err (record { why = NotJson; at = p }))
   die_reads m' e w = record { same = λ k. halt t m k p (e k) (w k); forth = tt }
 
   -- one byte of a class
@@ -54,7 +53,7 @@ module _ (t : List ℕ) (p : ℕ) (m : Mode) where
       cases false e = die_reads m' (λ k. (s k).0 ∙ ap (λ (y : Bool). one y m' k) e) (λ k. (s k).1)
 
   -- a reader after a reader
-  pub reads_then : (m' m'' : Mode) (r : Step) → Reads t p m m' r → (q : ℕ) → r ≡ Next q → (s : Step) → Reads t q m' m'' s → Reads t p m m'' s
+  pub reads_then : (m' m'' : Mode) (r : Step) → Reads t p m m' r → (q : ℕ) → r ≡ Ok q → (s : Step) → Reads t q m' m'' s → Reads t p m m'' s
   reads_then m' m'' r R q e s S =
       let f : (p < q) × (q ≤ length t) = subst (Forth t p) e R.forth in
       record {
@@ -62,23 +61,23 @@ module _ (t : List ℕ) (p : ℕ) (m : Mode) where
         forth = forth_on t p q s (omega arith) S.forth;
       }
 
-  pub reads_bad : (m' m'' : Mode) (r : Step) → Reads t p m m' r → (f : Fault) → r ≡ Fails f → Reads t p m m'' (Fails f)
+  pub reads_bad : (m' m'' : Mode) (r : Step) → Reads t p m m' r → (f : Fault) → r ≡ Err f → Reads t p m m'' (Err f)
   reads_bad m' m'' r R f e = record { same = λ k. R.same k ∙ ap (on_step t m' k) e; forth = tt }
 
   pub then_reads : (c : ℕ → Bool) → c 0 ≡ false → (m' m'' : Mode) (r : Step) → Reads t p m m' r → ((b : ℕ) → Takes c b m' m'') → Reads t p m m'' (then_one c t r)
-  then_reads c z m' m'' (Next q) R s = reads_then m' m'' (Next q) R q refl (one_of c t q) (Rattle.json_scan.proofs.Readers.one_reads t q m' c z m'' (s (get_or t q 0)))
-  then_reads c z m' m'' (Fails f) R s = reads_bad m' m'' (Fails f) R f refl
+  then_reads c z m' m'' (Ok q) R s = reads_then m' m'' (Ok q) R q refl (one_of c t q) (Rattle.json_scan.proofs.Readers.one_reads t q m' c z m'' (s (get_or t q 0)))
+  then_reads c z m' m'' (Err f) R s = reads_bad m' m'' (Err f) R f refl
 
   pub reads_is : (m' : Mode) (r s : Step) → s ≡ r → Reads t p m m' r → Reads t p m m' s
   reads_is m' r s e R = subst (Reads t p m m') (sym e) R
 
 pub onward_on : (t : List ℕ) (p q : ℕ) (r : Step) → p < q → q ≤ length t → Onward t q r → Forth t p r
-onward_on t p q (Next e) l h f = (omega arith, omega arith)
-onward_on t p q (Fails x) l h f = tt
+onward_on t p q (Ok e) l h f = (omega arith, omega arith)
+onward_on t p q (Err x) l h f = tt
 
 pub onward_of : (t : List ℕ) (p q : ℕ) (r : Step) → p ≤ q → Forth t q r → Onward t p r
-onward_of t p q (Next e) l f = (omega arith, omega arith)
-onward_of t p q (Fails x) l f = tt
+onward_of t p q (Ok e) l f = (omega arith, omega arith)
+onward_of t p q (Err x) l f = tt
 
 -- the bytes of a word, from its i-th on
 module _ (t ws : List ℕ) (i p : ℕ) (h : i < length ws) (k : Stack) where

@@ -7,12 +7,11 @@ use native.Mathlib.Omega.{arith}
 use borrow.Author.Tests.{leb-true, ne_eqb, lt-ltb, le-ltb}
 use lib.ListN.{length, get_or}
 use lib.Dec.{eqb, leb}
+use Rattle.std.specs.Prelude.{Ok, Err}
 use Rattle.ground.proofs.Laws.{never, and_true}
 use Rattle.answer.specs.declared.refusal.Why.TheVariants.{NotJson}
 use Rattle.json_scan.specs.Json.{Mode, Stack, go, die, step, one, inside, is_unescaped, is_hex, is_d, is_high, is_low, is_short, is_byte, Place, as_key, closed, str, text, wide, plain, esc, h1, h2, h2d, h3, h4, g3, g4, g5, g6, g7, g8, tail}
-use Rattle.json_scan.specs.Meets.{run_at, on_step, Forth, Reads, Takes, one_of, then_one, Stays, Passes, Wide}
-use Rattle.json_scan.specs.declared.step.Step.{Step}
-use Rattle.json_scan.specs.declared.step.Step.TheVariants.{Next, Fails}
+use Rattle.json_scan.specs.Meets.{run_at, on_step, Forth, Reads, Takes, one_of, then_one, Stays, Passes, Wide, Step}
 use Rattle.answer.specs.declared.refusal.Fault.{Fault}
 use Rattle.json_scan.proofs.Readers.{lt_of_class, inside_zero, hop_reads, go_reads, die_reads, one_reads, then_reads}
 
@@ -45,7 +44,7 @@ module _ (t : List ℕ) (p : ℕ) (w : Place) where
   letter_u = one_reads t p (str w g6) (is_byte 117) refl (str w g7) (λ k. (refl, refl))
 
   -- the first digits of a low surrogate
-  pub no_d : is_d (get_or t p 0) ≡ false → Reads t p (str w g7) (str w plain) (Fails (record { why = NotJson; at = p }))
+  pub no_d : is_d (get_or t p 0) ≡ false → Reads t p (str w g7) (str w plain) (Err (record { why = NotJson; at = p }))
   unfolding text
   no_d d = die_reads t p (str w g7) (str w plain) (λ k. ap (λ (x : Bool). one x (str w g8) k) d) (λ k. refl)
 
@@ -53,7 +52,7 @@ module _ (t : List ℕ) (p : ℕ) (w : Place) where
   unfolding text
   d_on d r R = hop_reads t p (str w g7) (str w g8) (str w plain) r (lt_of_class is_d refl t p d) (λ k. ap (λ (x : Bool). one x (str w g8) k) d) R
 
-  pub no_low : is_low (get_or t p 0) ≡ false → Reads t p (str w g8) (str w plain) (Fails (record { why = NotJson; at = p }))
+  pub no_low : is_low (get_or t p 0) ≡ false → Reads t p (str w g8) (str w plain) (Err (record { why = NotJson; at = p }))
   unfolding text
   no_low d = die_reads t p (str w g8) (str w plain) (λ k. ap (λ (x : Bool). one x (str w h3) k) d) (λ k. refl)
 
@@ -71,7 +70,7 @@ module _ (t : List ℕ) (p : ℕ) (w : Place) where
     unfolding text
     high_step k = ap (λ (x : Bool). cond x (go (str w h3) k) (one (is_high (get_or t p 0)) (str w g3) k)) n
 
-    pub no_high : is_high (get_or t p 0) ≡ false → Reads t p (str w h2d) (str w plain) (Fails (record { why = NotJson; at = p }))
+    pub no_high : is_high (get_or t p 0) ≡ false → Reads t p (str w h2d) (str w plain) (Err (record { why = NotJson; at = p }))
     no_high d = die_reads t p (str w h2d) (str w plain) (λ k. high_step k ∙ ap (λ (x : Bool). one x (str w g3) k) d) (λ k. refl)
 
     pub high_on : is_high (get_or t p 0) ≡ true → (r : Step) → Reads t (p + 1) (str w g3) (str w plain) r → Reads t p (str w h2d) (str w plain) r
@@ -82,7 +81,7 @@ module _ (t : List ℕ) (p : ℕ) (w : Place) where
   h1_d d r R = hop_reads t p (str w h1) (str w h2d) (str w plain) r (lt_of_class is_d refl t p d) (λ k. ap (λ (x : Bool). cond x (go (str w h2d) k) (one (is_hex (get_or t p 0)) (str w h2) k)) d) R
 
   -- after a \
-  pub short : is_short (get_or t p 0) ≡ true → Reads t p (str w esc) (str w plain) (Next (p + 1))
+  pub short : is_short (get_or t p 0) ≡ true → Reads t p (str w esc) (str w plain) (Ok (p + 1))
   unfolding text
   short d = go_reads t p (str w esc) (str w plain) (lt_of_class is_short refl t p d) (λ k. ap (λ (x : Bool). cond x (go (str w plain) k) (one (eqb (get_or t p 0) 117) (str w h1) k)) d)
 
@@ -90,7 +89,7 @@ module _ (t : List ℕ) (p : ℕ) (w : Place) where
   unfolding text
   esc_u b l r R = hop_reads t p (str w esc) (str w h1) (str w plain) r l (λ k. ap (λ (x : ℕ). text w esc x k) b) R
 
-  pub esc_bad : is_short (get_or t p 0) ≡ false → (get_or t p 0 ≡ 117 → ⊥) → Reads t p (str w esc) (str w plain) (Fails (record { why = NotJson; at = p }))
+  pub esc_bad : is_short (get_or t p 0) ≡ false → (get_or t p 0 ≡ 117 → ⊥) → Reads t p (str w esc) (str w plain) (Err (record { why = NotJson; at = p }))
   unfolding text
   esc_bad d n = die_reads t p (str w esc) (str w plain)
       (λ k. ap (λ (x : Bool). cond x (go (str w plain) k) (one (eqb (get_or t p 0) 117) (str w h1) k)) d ∙ ap (λ (x : Bool). one x (str w h1) k) (ne_eqb (get_or t p 0) 117 n))
@@ -118,12 +117,12 @@ module _ (t : List ℕ) (p b : ℕ) (l : p < length t) (e : b ≡ get_or t p 0) 
   pub wide_on : (lo hi n : ℕ) → ((k : Stack) → wide w b k ≡ go (str w (tail lo hi n)) k) → (r : Step) → Reads t (p + 1) (str w (tail lo hi n)) (str w plain) r → Wide w t p b r
   wide_on lo hi n s r R S = hop_reads t p (str w plain) (str w (tail lo hi n)) (str w plain) r l (λ k. ap (λ (x : ℕ). step (str w plain) x k) (sym e) ∙ S k ∙ s k) R
 
-  pub wide_bad : ((k : Stack) → wide w b k ≡ die NotJson) → Wide w t p b (Fails (record { why = NotJson; at = p }))
+  pub wide_bad : ((k : Stack) → wide w b k ≡ die NotJson) → Wide w t p b (Err (record { why = NotJson; at = p }))
   wide_bad s S = die_reads t p (str w plain) (str w plain) (λ k. ap (λ (x : ℕ). step (str w plain) x k) (sym e) ∙ S k ∙ s k) (λ k. refl)
 
   -- a character that is no quote
   module _ (q : b ≡ 34 → ⊥) where
-    pub control : b < 32 → Reads t p (str w plain) (str w plain) (Fails (record { why = NotJson; at = p }))
+    pub control : b < 32 → Reads t p (str w plain) (str w plain) (Err (record { why = NotJson; at = p }))
     unfolding text
     control h = die_reads t p (str w plain) (str w plain) (λ k. ap (λ (x : ℕ). text w plain x k) (sym e) ∙ simp (ne_eqb b 34 q, lt-ltb b 32 h)) (λ k. refl)
 
@@ -132,7 +131,7 @@ module _ (t : List ℕ) (p b : ℕ) (l : p < length t) (e : b ≡ get_or t p 0) 
     escaped h r R = hop_reads t p (str w plain) (str w esc) (str w plain) r l (λ k. ap (λ (x : ℕ). text w plain x k) (sym e ∙ h)) R
 
     module _ (h : 32 ≤ b) (n : b ≡ 92 → ⊥) where
-      pub ascii : b < 128 → Reads t p (str w plain) (str w plain) (Next (p + 1))
+      pub ascii : b < 128 → Reads t p (str w plain) (str w plain) (Ok (p + 1))
       unfolding text
       ascii g = go_reads t p (str w plain) (str w plain) l (λ k. ap (λ (x : ℕ). text w plain x k) (sym e) ∙ simp (ne_eqb b 34 q, le-ltb b 32 h, ne_eqb b 92 n, lt-ltb b 128 g))
 
@@ -140,7 +139,7 @@ module _ (t : List ℕ) (p b : ℕ) (l : p < length t) (e : b ≡ get_or t p 0) 
       unfolding text
       wider g r W = W (λ k. simp (ne_eqb b 34 q, le-ltb b 32 h, ne_eqb b 92 n, le-ltb b 128 g))
 
-  pub quoted : b ≡ 34 → Reads t p (str w plain) (closed w) (Next (p + 1))
+  pub quoted : b ≡ 34 → Reads t p (str w plain) (closed w) (Ok (p + 1))
   unfolding text
   quoted h = go_reads t p (str w plain) (closed w) l (λ k. ap (λ (x : ℕ). text w plain x k) (sym e ∙ h))
 
@@ -172,20 +171,20 @@ module _ (t : List ℕ) (p q : ℕ) (I : Inner t p q) where
       let end = P.high in
       record { low = omega arith; high = omega arith; same = λ w k. I.same w k ∙ P.same (str w plain) (plain_stays w) k }
 
-  pub inner_on : (r : Step) → ((w : Place) → Reads t q (str w plain) (str w plain) r) → (e : ℕ) → r ≡ Next e → Inner t p e × (q < e) × (e ≤ length t)
+  pub inner_on : (r : Step) → ((w : Place) → Reads t q (str w plain) (str w plain) r) → (e : ℕ) → r ≡ Ok e → Inner t p e × (q < e) × (e ≤ length t)
   inner_on r R e n =
       let f : (q < e) × (e ≤ length t) = subst (Forth t q) n (R as_key).forth in
       let low = I.low in
       (record { low = omega arith; high = omega arith; same = λ w k. I.same w k ∙ (R w).same k ∙ ap (on_step t (str w plain) k) n }, f.0, f.1)
 
-  pub inner_bad : (r : Step) → ((w : Place) → Reads t q (str w plain) (str w plain) r) → (f : Fault) → r ≡ Fails f → (w : Place) → Reads t p (str w plain) (closed w) (Fails f)
+  pub inner_bad : (r : Step) → ((w : Place) → Reads t q (str w plain) (str w plain) r) → (f : Fault) → r ≡ Err f → (w : Place) → Reads t p (str w plain) (closed w) (Err f)
   inner_bad r R f n w = record { same = λ k. I.same w k ∙ (R w).same k ∙ ap (on_step t (str w plain) k) n; forth = tt }
 
-  pub inner_shut : q < length t → get_or t q 0 ≡ 34 → (w : Place) → Reads t p (str w plain) (closed w) (Next (q + 1))
+  pub inner_shut : q < length t → get_or t q 0 ≡ 34 → (w : Place) → Reads t p (str w plain) (closed w) (Ok (q + 1))
   inner_shut l e w =
       let R = quoted t q (get_or t q 0) l refl w e in
       let low = I.low in
       record { same = λ k. I.same w k ∙ R.same k; forth = (omega arith, omega arith) }
 
-  pub inner_end : length t ≤ q → (w : Place) → Reads t p (str w plain) (closed w) (Fails (record { why = NotJson; at = q }))
+  pub inner_end : length t ≤ q → (w : Place) → Reads t p (str w plain) (closed w) (Err (record { why = NotJson; at = q }))
   inner_end l w = record { same = λ k. I.same w k ∙ Rattle.json_scan.proofs.Laws.at_end t (str w plain) k q l; forth = tt }

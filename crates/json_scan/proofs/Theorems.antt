@@ -7,16 +7,16 @@
 use mathlib.Core.Path.{◌≡◌, ap, ◌∙◌}
 use mathlib.Core.List.{List, ◌++◌}
 use Prim.Native.Nat.{ℕ}
+use Rattle.std.specs.Prelude.{Ok}
 use Rattle.answer.specs.declared.refusal.Why.{Why}
 use Rattle.answer.specs.declared.refusal.Why.TheVariants.{NestedTooDeep}
 use Rattle.json_scan.specs.Json.{Mode, Stack, fault, verdict, State, live, start, reach, run_from}
-use Rattle.json_scan.specs.declared.verdict.Scan.TheVariants.{Whole}
 use Rattle.json_scan.proofs.Parts.{run_parts, verdict_parts}
 use Rattle.json_scan.proofs.Completion.{live_shaped, completed}
 use Rattle.json_scan.proofs.Longest.{Longest, longest_prefix}
 use Rattle.json_scan.proofs.Depth.{Deep, deep}
 
-pub completion : (a : List ℕ) (m : Mode) (k : Stack) (p : ℕ) → reach start a ≡ live m k p → (s : List ℕ) × (verdict (a ++ s) ≡ Whole)
+pub completion : (a : List ℕ) (m : Mode) (k : Stack) (p : ℕ) → reach start a ≡ live m k p → (s : List ℕ) × (verdict (a ++ s) ≡ Ok tt)
 completion a m k p h =
     let W = completed m k (live_shaped a m k p h) in
     (W.0, verdict_parts a W.0 ∙ ap (λ (s : State). run_from s W.0) h ∙ W.1 p)

@@ -1,10 +1,9 @@
 -- JSON texts (RFC 8259) as a pushdown automaton on bytes: a mode, and a stack of the brackets that are open.
 -- Assumes nothing: these are definitions.
-use Rattle.std.specs.Prelude.{ℕ, zero, suc, Bool, true, false, cond, not, ◌&&◌, ◌||◌, List, [], ◌∷◌, length, ltb, leb, eqb}
+use Rattle.std.specs.Prelude.{ℕ, zero, suc, Bool, true, false, cond, not, ◌&&◌, ◌||◌, List, [], ◌∷◌, length, ltb, leb, eqb, Result, Ok, Err}
+use Rattle.answer.specs.declared.refusal.Fault.{Fault}
 use Rattle.answer.specs.declared.refusal.Why.{Why}
 use Rattle.answer.specs.declared.refusal.Why.TheVariants.{TextTooLong, NotJson, NestedTooDeep}
-use Rattle.json_scan.specs.declared.verdict.Scan.{Scan}
-use Rattle.json_scan.specs.declared.verdict.Scan.TheVariants.{Whole, Bad}
 
 -- a text has at most so many bytes, and its brackets nest at most so deep
 abbrev pub longest : ℕ
@@ -232,24 +231,28 @@ whole (word x xs) k = false
 whole (num n) k = closes n && bottom k
 whole (str w i) k = false
 
-abbrev pub fault : Why → ℕ → Scan
-fault w p = Bad (record { why = w; at = p })
+-- what the scan finds: a whole text, or its first fault
+abbrev pub Verdict : Type 0
+Verdict = Result (Unit {0}) Fault
+
+abbrev pub fault : Why → ℕ → Verdict
+fault w p = Err (record { why = w; at = p })
 
 -- the run over the bytes that stand from place p on
-abbrev pub onward : Move → ℕ → (Mode → Stack → Scan) → Scan
+abbrev pub onward : Move → ℕ → (Mode → Stack → Verdict) → Verdict
 onward (go m k) p f = f m k
 onward (die w) p f = fault w p
 
-unfoldable pub run : Mode → Stack → ℕ → List ℕ → Scan
-run m k p [] = cond (whole m k) Whole (fault NotJson p)
+unfoldable pub run : Mode → Stack → ℕ → List ℕ → Verdict
+run m k p [] = cond (whole m k) (Ok tt) (fault NotJson p)
 run m k p (b ∷ bs) = onward (step m b k) p (λ m' k'. run m' k' (suc p) bs)
 
 -- the verdict on a text of any length
-unfoldable pub verdict : List ℕ → Scan
+unfoldable pub verdict : List ℕ → Verdict
 verdict t = run val [] 0 t
 
 -- the scan: a text that is too long is not read at all
-unfoldable pub scanned : List ℕ → Scan
+unfoldable pub scanned : List ℕ → Verdict
 scanned t = cond (ltb longest (length t)) (fault TextTooLong longest) (verdict t)
 
 -- ---- the automaton's state as a value
@@ -274,6 +277,6 @@ reach (live m k p) (b ∷ bs) = reach (moved (step m b k) p) bs
 reach (dead w p) (b ∷ bs) = dead w p
 
 -- the run over bytes from a state on
-abbrev pub run_from : State → List ℕ → Scan
+abbrev pub run_from : State → List ℕ → Verdict
 run_from (live m k p) s = run m k p s
 run_from (dead w p) s = fault w p

@@ -19,23 +19,17 @@ pub(crate) fn hex(text: &[u8], at: usize) -> Step
 pub(crate) fn two_hex(text: &[u8], at: usize) -> Step
     ensures { result ≡ then_one is_hex text.now (one_of is_hex text.now at) }
 {
-    match hex(text, at) {
-        Step::Next(e) => hex(text, e),
-        Step::Fails(f) => Step::Fails(f),
-    }
+    let e = hex(text, at)?;
+    hex(text, e)
 }
 
 // The low half of a pair of surrogates, after the high one.
 pub(crate) fn low_half(text: &[u8], at: usize) -> Step
     ensures { (w : Place) → Reads text.now at (str w g5) (str w plain) result }
 {
-    match byte(text, at, 92) {
-        Step::Next(e) => match byte(text, e, b'u') {
-            Step::Next(g) => low_digits(text, g),
-            Step::Fails(f) => Step::Fails(f),
-        },
-        Step::Fails(f) => Step::Fails(f),
-    }
+    let e = byte(text, at, b'\\')?;
+    let g = byte(text, e, b'u')?;
+    low_digits(text, g)
 }
 
 pub(crate) fn low_digits(text: &[u8], at: usize) -> Step
@@ -62,10 +56,8 @@ pub(crate) fn after_d(text: &[u8], at: usize) -> Step
     if !is_high(b) {
         return bad(at);
     }
-    match two_hex(text, at + 1) {
-        Step::Next(e) => low_half(text, e),
-        Step::Fails(f) => Step::Fails(f),
-    }
+    let e = two_hex(text, at + 1)?;
+    low_half(text, e)
 }
 
 // The four digits of an escape.
@@ -75,10 +67,8 @@ pub(crate) fn four_hex(text: &[u8], at: usize) -> Step
     if is_d(byte_at(text, at)) {
         return after_d(text, at + 1);
     }
-    match two_hex(text, at) {
-        Step::Next(e) => two_hex(text, e),
-        Step::Fails(f) => Step::Fails(f),
-    }
+    let e = two_hex(text, at)?;
+    two_hex(text, e)
 }
 
 pub(crate) fn escape(text: &[u8], at: usize) -> Step
@@ -86,7 +76,7 @@ pub(crate) fn escape(text: &[u8], at: usize) -> Step
 {
     let b = byte_at(text, at);
     if is_short(b) {
-        Step::Next(at + 1)
+        Ok(at + 1)
     } else if b == b'u' {
         four_hex(text, at + 1)
     } else {

@@ -14,16 +14,16 @@ ghost use Rattle.std.specs.Prelude.{◌≡◌};
 ghost use Rattle.json_scan.specs.Json.{scanned, verdict};
 
 use answer::{Fault, Why};
-use step::{Step, skip};
+use step::skip;
 use value::value;
 pub use verdict::Scan;
 
-// The first fault of a text, if it has one.
-pub fn scan(text: &[u8]) -> Scan
+// The error is the first fault of the text.
+pub fn scan(text: &[u8]) -> Result<(), Fault>
     ensures { result ≡ scanned text.now }
 {
     if text.len() > Scan::TEXT {
-        return Scan::Bad(Fault {
+        return Err(Fault {
             why: Why::TextTooLong,
             at: Scan::TEXT,
         });
@@ -31,21 +31,16 @@ pub fn scan(text: &[u8]) -> Scan
     read(text)
 }
 
-fn read(text: &[u8]) -> Scan
+fn read(text: &[u8]) -> Result<(), Fault>
     ensures { result ≡ verdict text.now }
 {
-    match value(text, 0, Scan::NESTING) {
-        Step::Fails(f) => Scan::Bad(f),
-        Step::Next(e) => {
-            let at = skip(text, e);
-            if at < text.len() {
-                Scan::Bad(Fault {
-                    why: Why::NotJson,
-                    at,
-                })
-            } else {
-                Scan::Whole
-            }
-        }
+    let e = value(text, 0, Scan::NESTING)?;
+    let at = skip(text, e);
+    if at < text.len() {
+        return Err(Fault {
+            why: Why::NotJson,
+            at,
+        });
     }
+    Ok(())
 }

@@ -24,10 +24,8 @@ pub(crate) fn digits(text: &[u8], from: usize) -> usize
 pub(crate) fn some_digits(text: &[u8], from: usize) -> Step
     ensures { Digits text.now from result }
 {
-    match within(text, from, 48, 57) {
-        Step::Next(e) => Step::Next(digits(text, e)),
-        Step::Fails(f) => Step::Fails(f),
-    }
+    let e = within(text, from, b'0', b'9')?;
+    Ok(digits(text, e))
 }
 
 // An exponent, after its e.
@@ -48,7 +46,7 @@ pub(crate) fn exponent(text: &[u8], at: usize) -> Step
     if is_e(byte_at(text, at)) {
         power(text, at + 1)
     } else {
-        Step::Next(at)
+        Ok(at)
     }
 }
 
@@ -57,10 +55,8 @@ pub(crate) fn fraction(text: &[u8], at: usize) -> Step
     ensures { Ends pointed text.now at result }
 {
     if byte_at(text, at) == b'.' {
-        match some_digits(text, at + 1) {
-            Step::Next(e) => exponent(text, e),
-            Step::Fails(f) => Step::Fails(f),
-        }
+        let e = some_digits(text, at + 1)?;
+        exponent(text, e)
     } else {
         exponent(text, at)
     }
@@ -73,9 +69,7 @@ pub(crate) fn number(text: &[u8], at: usize) -> Step
     if byte_at(text, at) == b'0' {
         fraction(text, at + 1)
     } else {
-        match some_digits(text, at) {
-            Step::Next(e) => fraction(text, e),
-            Step::Fails(f) => Step::Fails(f),
-        }
+        let e = some_digits(text, at)?;
+        fraction(text, e)
     }
 }

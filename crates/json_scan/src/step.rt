@@ -1,5 +1,5 @@
 // Readers of one byte, of white space and of a word.
-ghost use Rattle.std.specs.Prelude.{◌≡◌, true, ◌<◌, length};
+ghost use Rattle.std.specs.Prelude.{◌≡◌, true, ◌<◌, length, Err};
 ghost use Rattle.json_scan.specs.Json.{is_space, is_byte, inside, done, spelt};
 ghost use Rattle.json_scan.specs.Meets.{Passes, Reads, one_of, took};
 
@@ -8,24 +8,19 @@ use answer::{Fault, Why};
 use ground::byte_at;
 
 // Where a reader stopped: past what it read, or at a fault.
-#[derive(Clone, Copy)]
-pub enum Step {
-    Next(usize),
-    Fails(Fault),
-}
+pub(crate) type Step = Result<usize, Fault>;
 
-// After an element: another one follows, or the bracket is closed, or a fault.
+// After an element: another one follows, or the bracket is closed.
 #[derive(Clone, Copy)]
-pub enum More {
+pub(crate) enum More {
     Again(usize),
     Closed(usize),
-    Stop(Fault),
 }
 
 pub(crate) fn bad(at: usize) -> Step
-    ensures { result ≡ Step.Fails (record { why = Why.NotJson; at = at }) }
+    ensures { result ≡ Err (record { why = Why.NotJson; at = at }) }
 {
-    Step::Fails(Fault {
+    Err(Fault {
         why: Why::NotJson,
         at,
     })
@@ -50,7 +45,7 @@ pub(crate) fn take(text: &[u8], at: usize, ok: bool) -> Step
     requires { ok ≡ true → at < length text.now }
     ensures { result ≡ took ok at }
 {
-    if ok { Step::Next(at + 1) } else { bad(at) }
+    if ok { Ok(at + 1) } else { bad(at) }
 }
 
 // One byte from lo to hi.
@@ -89,5 +84,5 @@ pub(crate) fn literal(text: &[u8], from: usize, word: &[u8]) -> Step
         i += 1;
         at += 1;
     }
-    Step::Next(at)
+    Ok(at)
 }

@@ -34,7 +34,7 @@ pub(crate) fn piece(text: &[u8], at: usize, b: u8) -> Step
     } else if b == 92 {
         escape(text, at + 1)
     } else if b < 128 {
-        Step::Next(at + 1)
+        Ok(at + 1)
     } else {
         wide_char(text, at, b)
     }
@@ -52,14 +52,9 @@ pub(crate) fn string(text: &[u8], from: usize) -> Step
         }
         let b = text[at];
         if b == b'"' {
-            return Step::Next(at + 1);
+            return Ok(at + 1);
         }
-        match piece(text, at, b) {
-            Step::Next(e) => {
-                at = e;
-            }
-            Step::Fails(f) => return Step::Fails(f),
-        }
+        at = piece(text, at, b)?;
     }
     bad(at)
 }

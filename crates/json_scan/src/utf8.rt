@@ -11,20 +11,16 @@ pub(crate) fn two_more(text: &[u8], at: usize, lo: u8, hi: u8) -> Step
     requires { 0 < lo }
     ensures { result ≡ then_one (inside 128 191) text.now (one_of (inside lo hi) text.now at) }
 {
-    match within(text, at, lo, hi) {
-        Step::Next(e) => within(text, e, 0x80, 0xbf),
-        Step::Fails(f) => Step::Fails(f),
-    }
+    let e = within(text, at, lo, hi)?;
+    within(text, e, 0x80, 0xbf)
 }
 
 pub(crate) fn three_more(text: &[u8], at: usize, lo: u8, hi: u8) -> Step
     requires { 0 < lo }
     ensures { result ≡ then_one (inside 128 191) text.now (then_one (inside 128 191) text.now (one_of (inside lo hi) text.now at)) }
 {
-    match two_more(text, at, lo, hi) {
-        Step::Next(e) => within(text, e, 0x80, 0xbf),
-        Step::Fails(f) => Step::Fails(f),
-    }
+    let e = two_more(text, at, lo, hi)?;
+    within(text, e, 0x80, 0xbf)
 }
 
 // A character of more than one byte, whose first is b.

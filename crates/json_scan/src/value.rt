@@ -33,18 +33,18 @@ pub(crate) fn scalar(text: &[u8], at: usize, b: u8) -> Step
 }
 
 // After an element or a member.
-pub(crate) fn next_item(text: &[u8], from: usize, close: u8) -> More
+pub(crate) fn next_item(text: &[u8], from: usize, close: u8) -> Result<More, Fault>
     requires { 0 < close }
     ensures { Follows text.now from close result }
 {
     let at = skip(text, from);
     let b = byte_at(text, at);
     if b == close {
-        More::Closed(at + 1)
+        Ok(More::Closed(at + 1))
     } else if b == b',' {
-        More::Again(at + 1)
+        Ok(More::Again(at + 1))
     } else {
-        More::Stop(Fault {
+        Err(Fault {
             why: Why::NotJson,
             at,
         })
@@ -56,13 +56,9 @@ pub(crate) fn key(text: &[u8], from: usize) -> Step
     ensures { Reads text.now from key val result }
 {
     let at = skip(text, from);
-    match byte(text, at, b'"') {
-        Step::Next(s) => match string(text, s) {
-            Step::Next(e) => colon(text, e),
-            Step::Fails(f) => Step::Fails(f),
-        },
-        Step::Fails(f) => Step::Fails(f),
-    }
+    let s = byte(text, at, b'"')?;
+    let e = string(text, s)?;
+    colon(text, e)
 }
 
 pub(crate) fn colon(text: &[u8], from: usize) -> Step
@@ -81,7 +77,7 @@ pub(crate) fn value(text: &[u8], from: usize, left: usize) -> Step
     let b = byte_at(text, at);
     if b == b'[' {
         if left == 0 {
-            return Step::Fails(Fault {
+            return Err(Fault {
                 why: Why::NestedTooDeep,
                 at,
             });
@@ -89,7 +85,7 @@ pub(crate) fn value(text: &[u8], from: usize, left: usize) -> Step
         array(text, at + 1, left - 1)
     } else if b == b'{' {
         if left == 0 {
-            return Step::Fails(Fault {
+            return Err(Fault {
                 why: Why::NestedTooDeep,
                 at,
             });
@@ -107,20 +103,16 @@ pub(crate) fn array(text: &[u8], from: usize, left: usize) -> Step
 {
     let start = skip(text, from);
     if byte_at(text, start) == b']' {
-        return Step::Next(start + 1);
+        return Ok(start + 1);
     }
     let mut at = start;
     loop {
-        let e = match value(text, at, left) {
-            Step::Next(e) => e,
-            Step::Fails(f) => return Step::Fails(f),
-        };
-        match next_item(text, e, b']') {
+        let e = value(text, at, left)?;
+        match next_item(text, e, b']')? {
             More::Again(a) => {
                 at = a;
             }
-            More::Closed(a) => return Step::Next(a),
-            More::Stop(f) => return Step::Fails(f),
+            More::Closed(a) => return Ok(a),
         }
     }
 }
@@ -132,24 +124,17 @@ pub(crate) fn object(text: &[u8], from: usize, left: usize) -> Step
 {
     let start = skip(text, from);
     if byte_at(text, start) == b'}' {
-        return Step::Next(start + 1);
+        return Ok(start + 1);
     }
     let mut at = start;
     loop {
-        let v = match key(text, at) {
-            Step::Next(v) => v,
-            Step::Fails(f) => return Step::Fails(f),
-        };
-        let e = match value(text, v, left) {
-            Step::Next(e) => e,
-            Step::Fails(f) => return Step::Fails(f),
-        };
-        match next_item(text, e, b'}') {
+        let v = key(text, at)?;
+        let e = value(text, v, left)?;
+        match next_item(text, e, b'}')? {
             More::Again(a) => {
                 at = a;
             }
-            More::Closed(a) => return Step::Next(a),
-            More::Stop(f) => return Step::Fails(f),
+            More::Closed(a) => return Ok(a),
         }
     }
 }

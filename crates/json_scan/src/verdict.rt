@@ -1,12 +1,6 @@
-// What the scan finds.
-use answer::Fault;
-
-// A text is whole, or it has a first fault.
+// The limits of a text.
 #[derive(Clone, Copy)]
-pub enum Scan {
-    Whole,
-    Bad(Fault),
-}
+pub struct Scan {}
 
 impl Scan {
     // The most bytes that a text may have.

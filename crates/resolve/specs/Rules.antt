@@ -1,13 +1,11 @@
 -- The rules that the rows of a declaration keep: strings and numbers, one preorder tree, and 01's 11, 14 and 19.
 -- Assumes nothing.
-use Rattle.std.specs.Prelude.{ℕ, ◌+◌, ◌-◌, ◌^◌, Bool, true, false, not, cond, ◌&&◌, ◌||◌, List, [], ◌∷◌, eqb, leb, ltb, length}
+use Rattle.std.specs.Prelude.{ℕ, ◌+◌, ◌-◌, ◌^◌, Bool, true, false, not, cond, ◌&&◌, ◌||◌, List, [], ◌∷◌, eqb, leb, ltb, length, is_ok}
 use Rattle.ground.specs.Bytes.{byte_at, same}
 use Rattle.decimals.specs.Limits.{limit_of}
 use Rattle.name.specs.Name.{is_empty, is_simple, is_dotted, is_reserved}
 use Rattle.name.specs.Full.{is_short}
-use Rattle.json_scan.specs.Json.{longest, is_space, scanned}
-use Rattle.json_scan.specs.declared.verdict.Scan.{Scan}
-use Rattle.json_scan.specs.declared.verdict.Scan.TheVariants.{Whole, Bad}
+use Rattle.json_scan.specs.Json.{longest, is_space, scanned, Verdict}
 use Rattle.row.specs.Rows.{Row}
 use Rattle.row.specs.declared.kind.Kind.{Kind}
 use Rattle.row.specs.declared.kind.Kind.TheVariants.{Bytes, Reference, Union, Record, Enum, Fixed, Field, Symbol, Alias, FieldAlias}
@@ -32,9 +30,8 @@ good_text kind text =
     (is_empty text)))
 
 -- the scan has no fault
-unfoldable pub passes : Scan → Bool
-passes Whole = true
-passes (Bad f) = false
+unfoldable pub passes : Verdict → Bool
+passes s = is_ok s
 
 -- a kept default: a whole text by the scan, with no white space before or behind its value, of at most 255 bytes
 unfoldable pub is_default : List ℕ → Bool

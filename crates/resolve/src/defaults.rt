@@ -8,7 +8,7 @@ ghost use Rattle.resolve.specs.Rules.{passes, is_default, good_default};
 
 use crate::kinds::is_kind;
 use ground::byte_at;
-use json_scan::{Scan, scan};
+use json_scan::scan;
 use name::Full;
 use row::Kind;
 
@@ -32,10 +32,7 @@ fn is_space(b: u8) -> bool
 fn passes(text: &[u8]) -> bool
     ensures { result ≡ passes (scanned text.now) }
 {
-    match scan(text) {
-        Scan::Whole => true,
-        Scan::Bad(_) => false,
-    }
+    scan(text).is_ok()
 }
 
 // Is the first byte no white space, and the last none?

@@ -10,14 +10,12 @@ use native.Mathlib.Omega.{arith}
 use lib.Dec.{eqb, ltb}
 use lib.ListN.{length, take, drop}
 use borrow.Author.Tests.{ltb-false}
+use Rattle.std.specs.Prelude.{Ok, Err}
 use Rattle.answer.specs.declared.counts.Counts.{Counts}
 use Rattle.answer.specs.declared.refusal.Fault.{Fault}
 use Rattle.answer.specs.declared.refusal.Why.TheVariants.{TextTooLong, NestedTooDeep, TypeMissing, NameMissing, FieldsMissing, ItemsMissing, ValuesMissing}
 use Rattle.json_scan.specs.Json as json
-use Rattle.json_scan.specs.Json.{scanned, verdict, longest}
-use Rattle.json_scan.specs.declared.verdict.Scan.{Scan}
-use Rattle.json_scan.specs.declared.verdict.Scan.TheVariants as scan
-use Rattle.json_scan.specs.declared.verdict.Scan.TheVariants.{Whole}
+use Rattle.json_scan.specs.Json.{scanned, verdict, longest, Verdict}
 use Rattle.name.specs.Name.{namespace_part}
 use Rattle.row.specs.Kinds.{kind_number}
 use Rattle.row.specs.Rows.{Row}
@@ -257,20 +255,20 @@ module _ (schema : ℕ → ℕ → Out) (t : List ℕ) (d f : ℕ) {o : Members}
 -- ---- the whole
 
 -- a text that was scanned is not too long
-pub scanned_short : (t : List ℕ) {r : Scan} → r ≡ scanned t → r ≡ Whole → length t ≤ longest
+pub scanned_short : (t : List ℕ) {r : Verdict} → r ≡ scanned t → r ≡ Ok tt → length t ≤ longest
 unfolding scanned
 scanned_short t e g = go (ltb longest (length t)) refl (sym e ∙ g)
   where
-    go : (b : Bool) → ltb longest (length t) ≡ b → cond b (json.fault TextTooLong longest) (verdict t) ≡ Whole → length t ≤ longest
+    go : (b : Bool) → ltb longest (length t) ≡ b → cond b (json.fault TextTooLong longest) (verdict t) ≡ Ok tt → length t ≤ longest
     go true f h = let z : ◌≡◌ {A = ℕ} 0 1 = cc in absurd (omega arith)
     go false f h = ltb-false longest (length t) f
 
-module _ (t : List ℕ) {r : Scan} (e : r ≡ scanned t) {m m' : List ℕ} {c : Counts} where
-  pub declared_not : {f : Fault} → r ≡ scan.Bad f → Did m c m' (Err f) (declared t)
+module _ (t : List ℕ) {r : Verdict} (e : r ≡ scanned t) {m m' : List ℕ} {c : Counts} where
+  pub declared_not : {f : Fault} → r ≡ Err f → Did m c m' (Err f) (declared t)
   unfolding declared
   declared_not {f} g = rw (← e, g) (did_bad m m' c f)
 
-  pub declared_rows : r ≡ Whole → {w : Walked} → Did m c m' w (rows_of t) → Did m c m' w (declared t)
+  pub declared_rows : r ≡ Ok tt → {w : Walked} → Did m c m' w (rows_of t) → Did m c m' w (declared t)
   unfolding declared
   declared_rows g k = rw (← e, g) k
 

@@ -1,11 +1,9 @@
 -- From a declaration's text to its rows, section "Rows" of document 01.
 -- Assumes nothing.
-use Rattle.std.specs.Prelude.{ℕ, zero, suc, ◌+◌, ◌-◌, cond, List, [], ◌∷◌, eqb, Option, Ok}
+use Rattle.std.specs.Prelude.{ℕ, zero, suc, ◌+◌, ◌-◌, cond, List, [], ◌∷◌, eqb, Option, Ok, Err}
 use Rattle.answer.specs.declared.refusal.Why.TheVariants.{NestedTooDeep, TypeMissing, NameMissing, FieldsMissing, SymbolsMissing, SizeMissing, NotASize, ItemsMissing, ValuesMissing, DefaultTooLong}
 use Rattle.ground.specs.Bytes.{part}
-use Rattle.json_scan.specs.Json.{scanned}
-use Rattle.json_scan.specs.declared.verdict.Scan.{Scan}
-use Rattle.json_scan.specs.declared.verdict.Scan.TheVariants.{Whole, Bad}
+use Rattle.json_scan.specs.Json.{scanned, Verdict}
 use Rattle.name.specs.Name.{namespace_part}
 use Rattle.name.specs.Full.{is_short}
 use Rattle.row.specs.Kinds.{kind_number}
@@ -217,9 +215,9 @@ unfoldable pub rows_of : List ℕ → Out
 rows_of t = schema_of most_nested t (within []) 0 (value_start t)
 
 -- a declaration of any bytes: the scan's fault, if it has one, before all
-abbrev pub on_scan : Scan → Out → Out
-on_scan Whole next = next
-on_scan (Bad f) next = refused f
+abbrev pub on_scan : Verdict → Out → Out
+on_scan (Ok u) next = next
+on_scan (Err f) next = refused f
 
 unfoldable pub declared : List ℕ → Out
 declared t = on_scan (scanned t) (rows_of t)

@@ -58,9 +58,7 @@ const MIDDLING: usize = 8192;
 pub fn declare(text: &[u8], draft: &mut [u8]) -> Walked
     ensures { Did draft.old no_counts draft.new result (declared text.now) }
 {
-    if let Scan::Bad(f) = scan(text) {
-        return Err(f);
-    }
+    scan(text)?;
     if text.len() <= SHORT {
         let mut few: [u16; SHORT] = [0; SHORT];
         let mut names: [u64; SHORT / SHARE] = [0; SHORT / SHARE];

@@ -7,14 +7,13 @@ use mathlib.Core.Logic.{⊎_elim}
 use Prim.Native.Nat.{ℕ, suc}
 use lib.Dec.{ltb}
 use lib.ListN.{length}
+use Rattle.std.specs.Prelude.{Ok, Err}
 use Rattle.answer.specs.declared.refusal.Why.{Why}
 use Rattle.answer.specs.declared.refusal.Why.TheVariants.{TextTooLong, NotJson, NestedTooDeep, NotAName}
 use Rattle.answer.specs.declared.refusal.Fault.{Fault}
 use Rattle.answer.specs.Numbers.{number_of}
-use Rattle.json_scan.specs.Json.{Mode, Stack, Move, go, die, step, whole, onward, run, verdict, scanned, longest}
+use Rattle.json_scan.specs.Json.{Mode, Stack, Move, go, die, step, whole, onward, run, verdict, scanned, longest, Verdict}
 use Rattle.json_scan.specs.Json as json
-use Rattle.json_scan.specs.declared.verdict.Scan.{Scan}
-use Rattle.json_scan.specs.declared.verdict.Scan.TheVariants.{Whole, Bad}
 use Rattle.json_scan.proofs.Depth.{Begins, Sane, step_sane}
 use Rattle.form.specs.Checks.{fault}
 use Rattle.form.specs.Forms.{most_nested}
@@ -28,9 +27,9 @@ use Rattle.told.proofs.Rows.{schema_fair}
 
 -- ---- the scan gives 1, 2 and 3
 module _ (t : List ℕ) where
-  abbrev FairScan : Scan → Type 0
-  FairScan Whole = Unit {0}
-  FairScan (Bad f) = Fair t f
+  abbrev FairScan : Verdict → Type 0
+  FairScan (Ok u) = Unit {0}
+  FairScan (Err f) = Fair t f
 
   by_reason : (w v : Why) (p : ℕ) → w ≡ v → Fair t (fault v p) → Fair t (fault w p)
   by_reason w v p e g = subst (λ (x : Why). Fair t (fault x p)) (sym e) g
@@ -39,7 +38,7 @@ module _ (t : List ℕ) where
   unfolding run
   run_fair [] m k p = end (whole m k)
     where
-      end : (b : Bool) → FairScan (cond b Whole (json.fault NotJson p))
+      end : (b : Bool) → FairScan (cond b (Ok tt) (json.fault NotJson p))
       end true = tt
       end false = other t NotJson p refl
   run_fair (b ∷ bs) m k p = on (step m b k) (step_sane b k m) (λ m' k'. run_fair bs m' k' (suc p))
@@ -60,9 +59,9 @@ module _ (t : List ℕ) where
   unfolding declared rows_of
   declared_fair = on (scanned t) scan_fair
     where
-      on : (s : Scan) → FairScan s → FairOut t (on_scan s (rows_of t))
-      on Whole g = schema_fair t most_nested (within []) 0 (value_start t)
-      on (Bad f) g = g
+      on : (s : Verdict) → FairScan s → FairOut t (on_scan s (rows_of t))
+      on (Ok u) g = schema_fair t most_nested (within []) 0 (value_start t)
+      on (Err f) g = g
 
 -- whatever the text
 pub own : (t : List ℕ) (f : Fault) → declared t ≡ refused f → is_own (number_of f.why) ≡ true

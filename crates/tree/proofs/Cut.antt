@@ -9,9 +9,9 @@ use Prim.Native.Nat.{ℕ, zero, suc, ◌+◌, ◌-◌, ◌≤◌, ◌<◌}
 use native.Mathlib.Omega.{arith}
 use lib.Dec.{eqb}
 use lib.ListN.{length, drop, length-append, length-drop}
+use Rattle.std.specs.Prelude.{Ok}
 use Rattle.json_scan.specs.Json.{Stack, square, brace, val, deepest, is_space, verdict}
 use Rattle.json_scan.specs.Meets.{run_at}
-use Rattle.json_scan.specs.declared.verdict.Scan.TheVariants.{Whole}
 use Rattle.ground.specs.Bytes.{byte_at, part}
 use Rattle.ground.proofs.Laws.{never}
 use Rattle.view.specs.Values.{count, skip_of}
@@ -74,7 +74,7 @@ pub record Cut (t : List ℕ) (p : ℕ) : Type 0 where
   pub within : end_of t p ≤ length t
   pub first : is_space (byte_at (part t p (end_of t p - p)) 0) ≡ false
   pub last : is_space (byte_at (part t p (end_of t p - p)) (length (part t p (end_of t p - p)) - 1)) ≡ false
-  pub whole : verdict (part t p (end_of t p - p)) ≡ Whole
+  pub whole : verdict (part t p (end_of t p - p)) ≡ Ok tt
 
 module _ (t : List ℕ) (n : ℕ) (room : n ≤ deepest) (p : ℕ) where
   -- a value of the grammar that stands at q, past the white space at p, and ends where the view says
@@ -184,5 +184,5 @@ module _ (t : List ℕ) (p : ℕ) (k : Stack) (s : Scanned t p k) where
           subst (λ (q : ℕ). Cut t q) (sym (skip_over t p (v ++ u) b e) ∙ at)
           (value_stands t (deepest - length k) (omega arith) (p + length w) v u d (past t p w (v ++ u) e) (after_stops a))
 
-  pub value_whole : verdict (part t p (end_of t p - p)) ≡ Whole
+  pub value_whole : verdict (part t p (end_of t p - p)) ≡ Ok tt
   value_whole = value_cut.whole

@@ -9,8 +9,8 @@ use Prim.Native.Nat.{ℕ, zero, suc, ◌+◌}
 use native.Mathlib.Omega.{arith}
 use lib.ListN.{length, drop}
 use lib.Seq.{drop_at}
+use Rattle.std.specs.Prelude.{Ok}
 use Rattle.json_scan.specs.Json.{deepest, verdict}
-use Rattle.json_scan.specs.declared.verdict.Scan.TheVariants.{Whole}
 use Rattle.ground.specs.Bytes.{byte_at}
 use Rattle.view.specs.Values.{skip_of, value_start, shape_of, is_value, starts_value}
 use Rattle.view.specs.Ends.{end_of, is_block, is_delimiter, at_rest, mode_after, depth_after}
@@ -115,7 +115,7 @@ pub one_tree : (n : ℕ) (t : List ℕ) (d e : JSON_text n t) → text_tree n t 
 one_tree n t d e = text_shown n t d ∙ sym (text_shown n t e)
 
 -- and a text that the scan finds whole has a derivation
-pub scanned_tree : (t : List ℕ) → verdict t ≡ Whole → (d : JSON_text deepest t) × (text_tree deepest t d ≡ shown t (suc deepest) (value_start t))
+pub scanned_tree : (t : List ℕ) → verdict t ≡ Ok tt → (d : JSON_text deepest t) × (text_tree deepest t d ≡ shown t (suc deepest) (value_start t))
 scanned_tree t h = let d = accepted_is_grammar t h in (d, text_shown deepest t d)
 
 -- and all strings in it are UTF-8

@@ -10,26 +10,25 @@ use native.Mathlib.Omega.{arith}
 use lib.Dec.{eqb}
 use lib.ListN.{length, drop}
 use borrow.Author.Tests.{ne_eqb}
+use Rattle.std.specs.Prelude.{Ok}
 use Rattle.answer.specs.declared.refusal.Why.{Why}
 use Rattle.answer.specs.declared.refusal.Why.TheVariants.{NotJson}
-use Rattle.json_scan.specs.Json.{Mode, Inside, Place, Stack, Move, Bracket, go, die, as_key, as_value, plain, esc, h1, h2, h2d, h3, h4, g3, g4, g5, g6, g7, g8, tail, val, first, done, key0, key, colon, word, num, str, step, whole, closes, closed, fault, onward, run}
-use Rattle.json_scan.specs.declared.verdict.Scan.{Scan}
-use Rattle.json_scan.specs.declared.verdict.Scan.TheVariants.{Whole}
+use Rattle.json_scan.specs.Json.{Mode, Inside, Place, Stack, Move, Bracket, go, die, as_key, as_value, plain, esc, h1, h2, h2d, h3, h4, g3, g4, g5, g6, g7, g8, tail, val, first, done, key0, key, colon, word, num, str, step, whole, closes, closed, fault, onward, run, Verdict}
 use Rattle.view.specs.Ends.{mode_after, depth_after, at_rest, to_rest}
 use Rattle.viewed.proofs.Machine.{never, in_mode, inside_mode, Good, in_string, Stacks, keeps, pushes, pops, Goes, Fits, fits_step}
 
 -- ---- a run that is whole goes on
-pub bad : {A : Type 0} {w : Why} {p : ℕ} → fault w p ≡ Whole → A
+pub bad : {A : Type 0} {w : Why} {p : ℕ} → fault w p ≡ Ok tt → A
 bad h = let z : ◌≡◌ {A = ℕ} 0 1 = cc in absurd (omega arith)
 
-pub data Lives (x : Move) (f : Mode → Stack → Scan) : Type 0 where
-  lives : (m : Mode) (κ : Stack) → x ≡ go m κ → f m κ ≡ Whole → Lives x f
+pub data Lives (x : Move) (f : Mode → Stack → Verdict) : Type 0 where
+  lives : (m : Mode) (κ : Stack) → x ≡ go m κ → f m κ ≡ Ok tt → Lives x f
 
-onward_lives : (x : Move) (p : ℕ) (f : Mode → Stack → Scan) → onward x p f ≡ Whole → Lives x f
+onward_lives : (x : Move) (p : ℕ) (f : Mode → Stack → Verdict) → onward x p f ≡ Ok tt → Lives x f
 onward_lives (go m κ) p f h = lives m κ refl h
 onward_lives (die w) p f h = bad h
 
-pub run_lives : (m : Mode) (κ : Stack) (p b : ℕ) (s : List ℕ) → run m κ p (b ∷ s) ≡ Whole → Lives (step m b κ) (λ m' κ'. run m' κ' (suc p) s)
+pub run_lives : (m : Mode) (κ : Stack) (p b : ℕ) (s : List ℕ) → run m κ p (b ∷ s) ≡ Ok tt → Lives (step m b κ) (λ m' κ'. run m' κ' (suc p) s)
 unfolding run
 run_lives m κ p b s h = onward_lives (step m b κ) p (λ m' κ'. run m' κ' (suc p) s) h
 
@@ -138,9 +137,9 @@ module _ (w : Place) (κ : Stack) where
       rw (rest_later (in_mode m) 0 b (in_mode m') 0 s i d r)
       (run_step m κ p b s q ∙ h ∙ ap (λ (x : ℕ). run (closed w) κ x (drop n s)) f)
 
-  turn_string : (s : List ℕ) → ((m : Mode) (p : ℕ) → Good m → in_string m w ≡ true → run m κ p s ≡ Whole → Closes s m p)
+  turn_string : (s : List ℕ) → ((m : Mode) (p : ℕ) → Good m → in_string m w ≡ true → run m κ p s ≡ Ok tt → Closes s m p)
       → (m m' : Mode) (b p : ℕ) (κ' : Stack) → in_string m w ≡ true → step m b κ ≡ go m' κ' → Goes (in_string m) b (in_mode m) κ m' κ' → Stacks (in_mode m) b κ m' κ'
-      → run m' κ' (suc p) s ≡ Whole → Closes (b ∷ s) m p
+      → run m' κ' (suc p) s ≡ Ok tt → Closes (b ∷ s) m p
   turn_string s on m m' b p κ' i q g (pushes x r f) l =
       let a = string_depth (in_mode m) b 0 (string_mode w m i) in let c = f 0 in absurd (omega arith)
   turn_string s on m m' b p κ' i q g (pops x r v f) l =
@@ -150,7 +149,7 @@ module _ (w : Place) (κ : Stack) where
       q' : step m b κ ≡ go m' κ
       q' = q ∙ ap (go m') r
 
-      l' : run m' κ (suc p) s ≡ Whole
+      l' : run m' κ (suc p) s ≡ Ok tt
       l' = ap (λ (c : Stack). run m' c (suc p) s) (sym r) ∙ l
 
       either : (in_string m' w ≡ true) ⊎ (m' ≡ closed w) → Closes (b ∷ s) m p
@@ -159,11 +158,11 @@ module _ (w : Place) (κ : Stack) where
           let z = at_zero (g.mode ∙ ap (λ (x : Mode). in_mode x) v ∙ closed_mode) (f 0) in
           rw (rest_here (in_mode m) 0 b s z) (run_step m κ p b s (q' ∙ ap (λ (x : Mode). go x κ) v) ∙ ap (λ (x : ℕ). run (closed w) κ x s) (sym (add-one p)))
 
-  pub string_closes : (s : List ℕ) (m : Mode) (p : ℕ) → Good m → in_string m w ≡ true → run m κ p s ≡ Whole → Closes s m p
+  pub string_closes : (s : List ℕ) (m : Mode) (p : ℕ) → Good m → in_string m w ≡ true → run m κ p s ≡ Ok tt → Closes s m p
   string_closes [] m p g i h = bad (sym (end_of_lem m κ p (unended m i)) ∙ h)
   string_closes (b ∷ s) m p g i h = one_move (string_closes s) (run_lives m κ p b s h)
     where
-      one_move : ((m : Mode) (p : ℕ) → Good m → in_string m w ≡ true → run m κ p s ≡ Whole → Closes s m p)
+      one_move : ((m : Mode) (p : ℕ) → Good m → in_string m w ≡ true → run m κ p s ≡ Ok tt → Closes s m p)
           → Lives (step m b κ) (λ m' κ'. run m' κ' (suc p) s) → Closes (b ∷ s) m p
       one_move on (lives m' κ' q l) = let f = goes_of (fits_step b m g κ) q in turn_string s on m m' b p κ' i q f f.stack l
 
@@ -197,21 +196,21 @@ module _ (k : Stack) where
       (run_step m (o ++ k) p b s q ∙ h ∙ ap (λ (x : ℕ). run done k x (drop n s)) f)
 
   -- one move
-  module _ (s : List ℕ) (on : (m : Mode) (x : Bracket) (o : Stack) (p : ℕ) → Good m → run m (x ∷ o ++ k) p s ≡ Whole → Ends s m (x ∷ o) p)
+  module _ (s : List ℕ) (on : (m : Mode) (x : Bracket) (o : Stack) (p : ℕ) → Good m → run m (x ∷ o ++ k) p s ≡ Ok tt → Ends s m (x ∷ o) p)
       (m m' : Mode) (b p : ℕ) where
     popped : (y : Bracket) (o : Stack) (x : Bracket) (κ' : Stack) → step m b (y ∷ o ++ k) ≡ go m' κ' → mode_after (in_mode m) b ≡ in_mode m' → y ∷ o ++ k ≡ x ∷ κ' → m' ≡ done
-        → ((d : ℕ) → depth_after (in_mode m) b d ≡ d - 1) → run m' κ' (suc p) s ≡ Whole → Ends (b ∷ s) m (y ∷ o) p
+        → ((d : ℕ) → depth_after (in_mode m) b d ≡ d - 1) → run m' κ' (suc p) s ≡ Ok tt → Ends (b ∷ s) m (y ∷ o) p
     popped y [] x κ' q g r v f w =
         let t : κ' ≡ k = cc in
         ends_here s m (y ∷ []) b p (q ∙ ap (λ (z : Mode). go z κ') v ∙ ap (go done) t) (at_zero (g ∙ ap (λ (z : Mode). in_mode z) v) (f 1))
     popped y (z ∷ o) x κ' q g r v f w =
         let t : κ' ≡ z ∷ o ++ k = cc in
-        let u : run done (z ∷ o ++ k) (suc p) s ≡ Whole = ap (λ (c : Stack). run done c (suc p) s) (sym t) ∙ ap (λ (c : Mode). run c κ' (suc p) s) (sym v) ∙ w in
+        let u : run done (z ∷ o ++ k) (suc p) s ≡ Ok tt = ap (λ (c : Stack). run done c (suc p) s) (sym t) ∙ ap (λ (c : Mode). run c κ' (suc p) s) (sym v) ∙ w in
         ends_later s m done (y ∷ z ∷ o) (z ∷ o) b p (q ∙ ap (λ (c : Mode). go c κ') v ∙ ap (go done) t) (g ∙ ap (λ (c : Mode). in_mode c) v) (f (length (y ∷ z ∷ o)) ∙ sub-one (suc (suc (length o))))
         (open_still 0 (length o)) (on done z o (suc p) tt u)
 
     turn : (y : Bracket) (o κ' : Stack) → step m b (y ∷ o ++ k) ≡ go m' κ' → Goes (in_string m) b (in_mode m) (y ∷ o ++ k) m' κ'
-        → Stacks (in_mode m) b (y ∷ o ++ k) m' κ' → run m' κ' (suc p) s ≡ Whole → Ends (b ∷ s) m (y ∷ o) p
+        → Stacks (in_mode m) b (y ∷ o ++ k) m' κ' → run m' κ' (suc p) s ≡ Ok tt → Ends (b ∷ s) m (y ∷ o) p
     turn y o κ' q g (keeps r f) w =
         ends_later s m m' (y ∷ o) (y ∷ o) b p (q ∙ ap (go m') r) g.mode (f (length (y ∷ o))) (open_still (in_mode m') (length o))
         (on m' y o (suc p) g.good (ap (λ (c : Stack). run m' c (suc p) s) (sym r) ∙ w))
@@ -220,12 +219,12 @@ module _ (k : Stack) where
         (on m' x (y ∷ o) (suc p) g.good (ap (λ (c : Stack). run m' c (suc p) s) (sym r) ∙ w))
     turn y o κ' q g (pops x r v f) w = popped y o x κ' q g.mode r v f w
 
-  pub rests : (s : List ℕ) (m : Mode) (x : Bracket) (o : Stack) (p : ℕ) → Good m → run m (x ∷ o ++ k) p s ≡ Whole → Ends s m (x ∷ o) p
+  pub rests : (s : List ℕ) (m : Mode) (x : Bracket) (o : Stack) (p : ℕ) → Good m → run m (x ∷ o ++ k) p s ≡ Ok tt → Ends s m (x ∷ o) p
   rests [] m x o p g h = bad (sym (end_of_lem m (x ∷ o ++ k) p (unwhole m x o)) ∙ h)
   rests (b ∷ s) m x o p g h = one_move (run_lives m (x ∷ o ++ k) p b s h) (rests s)
     where
       one_move : Lives (step m b (x ∷ o ++ k)) (λ m' κ'. run m' κ' (suc p) s)
-          → ((m : Mode) (x : Bracket) (o : Stack) (p : ℕ) → Good m → run m (x ∷ o ++ k) p s ≡ Whole → Ends s m (x ∷ o) p) → Ends (b ∷ s) m (x ∷ o) p
+          → ((m : Mode) (x : Bracket) (o : Stack) (p : ℕ) → Good m → run m (x ∷ o ++ k) p s ≡ Ok tt → Ends s m (x ∷ o) p) → Ends (b ∷ s) m (x ∷ o) p
       one_move (lives m' κ' q w) on =
           let f = goes_of (fits_step b m g (x ∷ o ++ k)) q in
           turn s on m m' b p x o κ' q f f.stack w

@@ -10,10 +10,10 @@ use native.Mathlib.Omega.{arith}
 use lib.Dec.{eqb}
 use lib.ListN.{drop}
 use borrow.Author.Tests.{eqb-true}
+use Rattle.std.specs.Prelude.{Ok}
 use Rattle.answer.specs.declared.refusal.Why.{Why}
 use Rattle.answer.specs.declared.refusal.Why.TheVariants.{NotJson}
 use Rattle.json_scan.specs.Json.{Mode, Num, Stack, Move, go, die, inside, is_space, is_digit, is_e, is_sign, square, brace, minus, nought, int, dot, frac, e, sign, exp, val, first, done, key0, key, colon, word, num, str, after, power, point, number, one, step, bottom, closes, fault, onward, run}
-use Rattle.json_scan.specs.declared.verdict.Scan.TheVariants.{Whole}
 use Rattle.view.specs.Values.{count}
 use Rattle.view.specs.Ends.{is_delimiter, is_token}
 use Rattle.viewed.proofs.Machine.{never}
@@ -116,7 +116,7 @@ pub gone : {A : Type 0} {w : Why} {m : Mode} {κ : Stack} → die w ≡ go m κ 
 gone h = let z : ◌≡◌ {A = ℕ} 0 1 = cc in absurd (omega arith)
 
 -- behind a value stands a delimiter, or nothing
-pub done_stops : (k : Stack) (s : List ℕ) (p : ℕ) → run done k p s ≡ Whole → count is_token s ≡ 0
+pub done_stops : (k : Stack) (s : List ℕ) (p : ℕ) → run done k p s ≡ Ok tt → count is_token s ≡ 0
 unfolding count
 done_stops k [] p h = refl
 done_stops k (b ∷ s) p h = go1 (is_delimiter b) refl (run_lives done k p b s h)
@@ -197,21 +197,21 @@ module _ (k : Stack) where
       let f : suc p + count is_token s ≡ p + suc (count is_token s) = omega arith in
       rw h (run_step m k p b s q ∙ r ∙ ap (λ (x : ℕ). run done k x (drop (count is_token s) s)) f)
 
-  num_end : (n : Num) (p : ℕ) → run (num n) k p [] ≡ Whole → Ends [] (num n) p
+  num_end : (n : Num) (p : ℕ) → run (num n) k p [] ≡ Ok tt → Ends [] (num n) p
   unfolding run count
   num_end n p h = go1 (closes n) (bottom k) h
     where
-      go1 : (x y : Bool) → cond (x && y) Whole (fault NotJson p) ≡ Whole → cond (x && y) Whole (fault NotJson p) ≡ cond y Whole (fault NotJson (p + 0))
+      go1 : (x y : Bool) → cond (x && y) (Ok tt) (fault NotJson p) ≡ Ok tt → cond (x && y) (Ok tt) (fault NotJson p) ≡ cond y (Ok tt) (fault NotJson (p + 0))
       go1 true true i = refl
       go1 true false i = bad i
       go1 false y i = bad i
 
-  pub num_ends : (s : List ℕ) (n : Num) (p : ℕ) → run (num n) k p s ≡ Whole → Ends s (num n) p
+  pub num_ends : (s : List ℕ) (n : Num) (p : ℕ) → run (num n) k p s ≡ Ok tt → Ends s (num n) p
   num_ends [] n p h = num_end n p h
   num_ends (b ∷ s) n p h = go1 (num_ends s) (is_delimiter b) refl (run_lives (num n) k p b s h)
     where
-      on : ((n : Num) (p : ℕ) → run (num n) k p s ≡ Whole → Ends s (num n) p) → is_delimiter b ≡ false → (m : Mode) (κ : Stack) → Numeric' k (go m κ)
-          → number n b k ≡ go m κ → run m κ (suc p) s ≡ Whole → Ends (b ∷ s) (num n) p
+      on : ((n : Num) (p : ℕ) → run (num n) k p s ≡ Ok tt → Ends s (num n) p) → is_delimiter b ≡ false → (m : Mode) (κ : Stack) → Numeric' k (go m κ)
+          → number n b k ≡ go m κ → run m κ (suc p) s ≡ Ok tt → Ends (b ∷ s) (num n) p
       on r i val κ v q w = absurd v
       on r i first κ v q w = absurd v
       on r i done κ v q w = absurd v
@@ -227,7 +227,7 @@ module _ (k : Stack) where
       stop (inl a) i m κ q = ends_here s (num n) b p i a
       stop (inr a) i m κ q = gone (sym a ∙ q)
 
-      go1 : ((n : Num) (p : ℕ) → run (num n) k p s ≡ Whole → Ends s (num n) p) → (x : Bool) → is_delimiter b ≡ x
+      go1 : ((n : Num) (p : ℕ) → run (num n) k p s ≡ Ok tt → Ends s (num n) p) → (x : Bool) → is_delimiter b ≡ x
           → Lives (number n b k) (λ m' κ'. run m' κ' (suc p) s) → Ends (b ∷ s) (num n) p
       go1 r true i (lives m κ q w) = stop (number_stops b i n) i m κ q
       go1 r false i (lives m κ q w) = on r i m κ (subst (λ (x : Move). Numeric k x) q (number_moves b i n)).numeric q w
@@ -237,10 +237,10 @@ module _ (k : Stack) where
   Tokens [] = Unit {0}
   Tokens (x ∷ xs) = (is_delimiter x ≡ false) × Tokens xs
 
-  done_ends : (s : List ℕ) (p : ℕ) → run done k p s ≡ Whole → Ends s done p
+  done_ends : (s : List ℕ) (p : ℕ) → run done k p s ≡ Ok tt → Ends s done p
   done_ends s p h = rw (done_stops k s p h, add-zero)
 
-  pub word_ends : (xs : List ℕ) (x : ℕ) (s : List ℕ) (p : ℕ) → Tokens (x ∷ xs) → run (word x xs) k p s ≡ Whole → Ends s (word x xs) p
+  pub word_ends : (xs : List ℕ) (x : ℕ) (s : List ℕ) (p : ℕ) → Tokens (x ∷ xs) → run (word x xs) k p s ≡ Ok tt → Ends s (word x xs) p
   word_ends xs x [] p t h = bad (sym (end_of_lem (word x xs) k p refl) ∙ h)
   word_ends [] x (b ∷ s) p t h = go1 (eqb b x) refl (run_lives (word x []) k p b s h)
     where
@@ -250,17 +250,17 @@ module _ (k : Stack) where
           ends_later s (word x []) done b p (ap is_delimiter (eqb-true b x i) ∙ t.0) (ap (λ (y : Bool). one y done k) i)
           (done_ends s (suc p) (went q w))
         where
-          went : go done k ≡ go m κ → run m κ (suc p) s ≡ Whole → run done k (suc p) s ≡ Whole
+          went : go done k ≡ go m κ → run m κ (suc p) s ≡ Ok tt → run done k (suc p) s ≡ Ok tt
           went q w = let a : m ≡ done = cc in let c : κ ≡ k = cc in ap (λ (z : Stack). run done z (suc p) s) (sym c) ∙ ap (λ (z : Mode). run z κ (suc p) s) (sym a) ∙ w
   word_ends (y ∷ ys) x (b ∷ s) p t h = go1 (word_ends ys y s (suc p) t.1) (eqb b x) refl (run_lives (word x (y ∷ ys)) k p b s h)
     where
-      go1 : (run (word y ys) k (suc p) s ≡ Whole → Ends s (word y ys) (suc p)) → (z : Bool) → eqb b x ≡ z → Lives (one z (word y ys) k) (λ m' κ'. run m' κ' (suc p) s)
+      go1 : (run (word y ys) k (suc p) s ≡ Ok tt → Ends s (word y ys) (suc p)) → (z : Bool) → eqb b x ≡ z → Lives (one z (word y ys) k) (λ m' κ'. run m' κ' (suc p) s)
           → Ends (b ∷ s) (word x (y ∷ ys)) p
       go1 r false i (lives m κ q w) = gone q
       go1 r true i (lives m κ q w) =
           ends_later s (word x (y ∷ ys)) (word y ys) b p (ap is_delimiter (eqb-true b x i) ∙ t.0) (ap (λ (z : Bool). one z (word y ys) k) i) (r (went q w))
         where
-          went : go (word y ys) k ≡ go m κ → run m κ (suc p) s ≡ Whole → run (word y ys) k (suc p) s ≡ Whole
+          went : go (word y ys) k ≡ go m κ → run m κ (suc p) s ≡ Ok tt → run (word y ys) k (suc p) s ≡ Ok tt
           went q w =
               let a : m ≡ word y ys = cc in
               let c : κ ≡ k = cc in

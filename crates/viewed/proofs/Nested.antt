@@ -11,10 +11,10 @@ use lib.Dec.{eqb, ltb}
 use lib.ListN.{length, drop}
 use lib.Seq.{drop-drop}
 use borrow.Author.Tests.{eqb-true}
+use Rattle.std.specs.Prelude.{Ok}
 use Rattle.answer.specs.declared.refusal.Why.TheVariants.{NestedTooDeep}
 use Rattle.json_scan.specs.Json.{Mode, Stack, Move, Bracket, go, die, deepest, is_space, square, brace, as_key, plain, val, first, done, key0, key, colon, str, opens, begin, one, spaced, step, run}
 use Rattle.json_scan.specs.Meets.{run_at}
-use Rattle.json_scan.specs.declared.verdict.Scan.TheVariants.{Whole}
 use Rattle.ground.specs.Bytes.{byte_at}
 use Rattle.ground.proofs.Laws.{and_intro}
 use Rattle.view.specs.Values.{skip_of, shape_of, is_value, starts_value}
@@ -31,22 +31,22 @@ use Rattle.viewed.proofs.Scanned.{Scanned, drop_here, more, at_lives, alike, ski
 -- ---- the byte that decides
 module _ (t : List ℕ) (p : ℕ) where
   -- the bracket opens
-  opened : (k : Stack) (c : ℕ) (x : Bracket) (m : Mode) → step val c k ≡ opens x m k → byte_at t p ≡ c → Scanned t p k → run_at t m (x ∷ k) (p + 1) ≡ Whole
+  opened : (k : Stack) (c : ℕ) (x : Bracket) (m : Mode) → step val c k ≡ opens x m k → byte_at t p ≡ c → Scanned t p k → run_at t m (x ∷ k) (p + 1) ≡ Ok tt
   opened k c x m o e s =
       go1 (ltb (length k) deepest) (subst (λ (y : Move). Lives y (λ m' κ'. run_at t m' κ' (p + 1))) (ap (λ (b : ℕ). step val b k) e ∙ o) (at_lives t p val k (more t p val k refl s.on) s.on))
     where
-      go1 : (y : Bool) → Lives (cond y (go m (x ∷ k)) (die NestedTooDeep)) (λ m' κ'. run_at t m' κ' (p + 1)) → run_at t m (x ∷ k) (p + 1) ≡ Whole
+      go1 : (y : Bool) → Lives (cond y (go m (x ∷ k)) (die NestedTooDeep)) (λ m' κ'. run_at t m' κ' (p + 1)) → run_at t m (x ∷ k) (p + 1) ≡ Ok tt
       go1 true (lives m' κ' q w) = sym (went (λ m'' κ''. run_at t m'' κ'' (p + 1)) q) ∙ w
       go1 false (lives m' κ' q w) = gone q
 
   -- one byte of a kind
-  only : (m : Mode) (κ : Stack) (y : Bool) → Lives (one y m κ) (λ m' κ'. run_at t m' κ' (p + 1)) → (y ≡ true) × (run_at t m κ (p + 1) ≡ Whole)
+  only : (m : Mode) (κ : Stack) (y : Bool) → Lives (one y m κ) (λ m' κ'. run_at t m' κ' (p + 1)) → (y ≡ true) × (run_at t m κ (p + 1) ≡ Ok tt)
   only m κ true (lives m' κ' q w) = (refl, sym (went (λ m'' κ''. run_at t m'' κ'' (p + 1)) q) ∙ w)
   only m κ false (lives m' κ' q w) = gone q
 
   -- or the bracket's end
   shut_or : (m : Mode) (κ κ' : Stack) (x y : Bool) → Lives (cond x (go done κ) (one y m κ')) (λ m'' κ''. run_at t m'' κ'' (p + 1))
-      → x ≡ false → (y ≡ true) × (run_at t m κ' (p + 1) ≡ Whole)
+      → x ≡ false → (y ≡ true) × (run_at t m κ' (p + 1) ≡ Ok tt)
   shut_or m κ κ' true y l h = never (sym h)
   shut_or m κ κ' false y l h = only m κ' y l
 
@@ -69,7 +69,7 @@ unspaced m k b x n = ap (λ (y : Bool). cond y (go m k) x) n
 -- ---- arrays
 module _ (t : List ℕ) (k : Stack) where
   module _ (p : ℕ) (e : byte_at t p ≡ 91) (s : Scanned t p k) where
-    first_on : run_at t first (square ∷ k) (skip_of t (p + 1)) ≡ Whole
+    first_on : run_at t first (square ∷ k) (skip_of t (p + 1)) ≡ Ok tt
     first_on = skips first (λ b κ i. rw i) (square ∷ k) t (p + 1) (opened t p k 91 square first refl e s)
 
     -- a first element, or the closing bracket
@@ -142,7 +142,7 @@ module _ (t : List ℕ) (k : Stack) where
       all_on (λ q. Scanned t q (square ∷ k)) (next_element t) (λ x q i g. next_scanned x i q g) (suc (length t)) (first_element t p) (λ q g. first_scanned p e s q g)
 
 -- ---- objects
-key_string : (κ : Stack) (s : List ℕ) (q : ℕ) → run key κ q (34 ∷ s) ≡ Whole → run key κ q (34 ∷ s) ≡ run colon κ (q + to_rest 0 0 (34 ∷ s)) (drop (to_rest 0 0 (34 ∷ s)) (34 ∷ s))
+key_string : (κ : Stack) (s : List ℕ) (q : ℕ) → run key κ q (34 ∷ s) ≡ Ok tt → run key κ q (34 ∷ s) ≡ run colon κ (q + to_rest 0 0 (34 ∷ s)) (drop (to_rest 0 0 (34 ∷ s)) (34 ∷ s))
 unfolding mode_after depth_after at_rest
 key_string κ s q h = go1 (run_lives key κ q 34 s h)
   where
@@ -152,18 +152,18 @@ key_string κ s q h = go1 (run_lives key κ q 34 s h)
         (string_closes as_key κ s (str as_key plain) (suc q) tt refl (sym (went (λ m'' κ''. run m'' κ'' (suc q) s) r) ∙ w))
 
 -- a key ends where the automaton expects the colon
-key_ends : (t : List ℕ) (κ : Stack) (q : ℕ) → byte_at t q ≡ 34 → run_at t key κ q ≡ Whole → run_at t colon κ (end_of t q) ≡ Whole
+key_ends : (t : List ℕ) (κ : Stack) (q : ℕ) → byte_at t q ≡ 34 → run_at t key κ q ≡ Ok tt → run_at t colon κ (end_of t q) ≡ Ok tt
 unfolding run_at end_of closing_of is_block
 key_ends t κ q e h =
     let l = more t q key κ refl h in
     let d : drop q t ≡ 34 ∷ drop (suc q) t = drop_here t q l ∙ ap (λ (b : ℕ). b ∷ drop (suc q) t) e in
     let n = to_rest 0 0 (34 ∷ drop (suc q) t) in
-    let a : run key κ q (34 ∷ drop (suc q) t) ≡ Whole = ap (λ (s : List ℕ). run key κ q s) (sym d) ∙ h in
+    let a : run key κ q (34 ∷ drop (suc q) t) ≡ Ok tt = ap (λ (s : List ℕ). run key κ q s) (sym d) ∙ h in
     rw (e, d) (ap (λ (s : List ℕ). run colon κ (q + n) s) (sym (ap (drop n) (sym d) ∙ drop-drop n q t)) ∙ sym (key_string κ (drop (suc q) t) q a) ∙ a)
 
 module _ (t : List ℕ) (κ : Stack) where
   -- a key, a colon, a value
-  keyed : (q : ℕ) → eqb (byte_at t q) 34 ≡ true → run_at t key κ q ≡ Whole → (is_member t q ≡ true) × Scanned t (value_of t q) κ
+  keyed : (q : ℕ) → eqb (byte_at t q) 34 ≡ true → run_at t key κ q ≡ Ok tt → (is_member t q ≡ true) × Scanned t (value_of t q) κ
   unfolding is_member value_of
   keyed q e h =
       let c = colon_of t q in
@@ -179,7 +179,7 @@ module _ (t : List ℕ) (κ : Stack) where
 
 module _ (t : List ℕ) (k : Stack) where
   module _ (p : ℕ) (e : byte_at t p ≡ 123) (s : Scanned t p k) where
-    object_on : run_at t key0 (brace ∷ k) (skip_of t (p + 1)) ≡ Whole
+    object_on : run_at t key0 (brace ∷ k) (skip_of t (p + 1)) ≡ Ok tt
     object_on = skips key0 (λ b κ i. rw i) (brace ∷ k) t (p + 1) (opened t p k 123 brace key0 refl e s)
 
     -- a first member, or the closing brace

@@ -13,11 +13,11 @@ use lib.Dec.{eqb, leb, ltb}
 use lib.ListN.{length, drop, drop_of_length-le}
 use lib.Seq.{drop-cons, drop-drop, get_or-drop}
 use borrow.Author.Tests.{eqb-true, leb-true, le-leb}
+use Rattle.std.specs.Prelude.{Ok}
 use Rattle.answer.specs.declared.refusal.Why.{Why}
 use Rattle.answer.specs.declared.refusal.Why.TheVariants.{NotJson, NestedTooDeep}
 use Rattle.json_scan.specs.Json.{Mode, Stack, Move, Bracket, go, die, deepest, inside, is_space, is_digit, square, brace, as_value, plain, minus, nought, int, val, first, done, key0, word, num, str, opens, word_of, simple, begin, step, whole, run, verdict}
 use Rattle.json_scan.specs.Meets.{run_at}
-use Rattle.json_scan.specs.declared.verdict.Scan.TheVariants.{Whole}
 use Rattle.ground.specs.Bytes.{byte_at}
 use Rattle.ground.proofs.Laws.{and_true, and_intro, byte_at_lem}
 use Rattle.view.specs.declared.shape.Shape.TheVariants.{Text, Number, Object, Array, Word, Nothing}
@@ -34,7 +34,7 @@ module _ (t : List ℕ) (p : ℕ) where
   drop_here h = rw byte_at_lem (drop-cons t p 0 h)
 
   -- where the text may not end, there is a byte
-  pub more : (m : Mode) (k : Stack) → whole m k ≡ false → run_at t m k p ≡ Whole → p < length t
+  pub more : (m : Mode) (k : Stack) → whole m k ≡ false → run_at t m k p ≡ Ok tt → p < length t
   unfolding run_at
   more m k n h = go1 (dec_lt p (length t))
     where
@@ -42,12 +42,12 @@ module _ (t : List ℕ) (p : ℕ) where
       go1 (yes l) = l
       go1 (no l) = let o : length t ≤ p = omega arith in bad (sym (end_of_lem m k p n) ∙ ap (λ (s : List ℕ). run m k p s) (sym (drop_of_length-le t o)) ∙ h)
 
-  pub at_lives : (m : Mode) (k : Stack) → p < length t → run_at t m k p ≡ Whole → Lives (step m (byte_at t p) k) (λ m' κ'. run_at t m' κ' (p + 1))
+  pub at_lives : (m : Mode) (k : Stack) → p < length t → run_at t m k p ≡ Ok tt → Lives (step m (byte_at t p) k) (λ m' κ'. run_at t m' κ' (p + 1))
   unfolding run_at
   at_lives m k l h = rw add-one (run_lives m k p (byte_at t p) (drop (suc p) t) (ap (λ (s : List ℕ). run m k p s) (sym (drop_here l)) ∙ h))
 
   -- another mode that makes the same move
-  pub alike : (m m' : Mode) (k : Stack) → p < length t → step m (byte_at t p) k ≡ step m' (byte_at t p) k → run_at t m k p ≡ Whole → run_at t m' k p ≡ Whole
+  pub alike : (m m' : Mode) (k : Stack) → p < length t → step m (byte_at t p) k ≡ step m' (byte_at t p) k → run_at t m k p ≡ Ok tt → run_at t m' k p ≡ Ok tt
   unfolding run_at run
   alike m m' k l e h = rw (drop_here l, ← e) (rw (drop_here l) at h)
 
@@ -65,7 +65,7 @@ module _ (m : Mode) (stays : (b : ℕ) (k : Stack) → is_space b ≡ true → s
           run_step m k p b s (stays b k i) ∙ r ∙ ap (λ (x : ℕ). run m k x (drop (count is_space s) s)) f
       go1 r false i = ap (λ (x : ℕ). run m k x (b ∷ s)) (sym (add-zero p))
 
-  pub skips : (t : List ℕ) (p : ℕ) → run_at t m k p ≡ Whole → run_at t m k (skip_of t p) ≡ Whole
+  pub skips : (t : List ℕ) (p : ℕ) → run_at t m k p ≡ Ok tt → run_at t m k (skip_of t p) ≡ Ok tt
   unfolding run_at skip_of
   skips t p h = ap (λ (s : List ℕ). run m k (p + count is_space (drop p t)) s) (sym (drop-drop (count is_space (drop p t)) p t)) ∙ sym (spaces (drop p t) p) ∙ h
 
@@ -137,12 +137,12 @@ module _ (b : ℕ) (k : Stack) where
 
 -- at p the automaton reads a value within the brackets k, and the whole text is right
 pub record Scanned (t : List ℕ) (p : ℕ) (k : Stack) : Type 0 where
-  pub on : run_at t val k p ≡ Whole
+  pub on : run_at t val k p ≡ Ok tt
   pub solid_at : is_space (byte_at t p) ≡ false
   pub value : starts_value (byte_at t p) ≡ true
 
 module _ (t : List ℕ) (k : Stack) where
-  pub value_here : (p : ℕ) → is_space (byte_at t p) ≡ false → run_at t val k p ≡ Whole → Scanned t p k
+  pub value_here : (p : ℕ) → is_space (byte_at t p) ≡ false → run_at t val k p ≡ Ok tt → Scanned t p k
   value_here p n h = go1 (at_lives t p val k (more t p val k refl h) h)
     where
       go1 : Lives (step val (byte_at t p) k) (λ m' κ'. run_at t m' κ' (p + 1)) → Scanned t p k
@@ -150,23 +150,23 @@ module _ (t : List ℕ) (k : Stack) where
           let b = (subst (λ (x : Move). Starts (byte_at t p) x) (sym (ap (λ (x : Bool). cond x (go val k) (begin (byte_at t p) k)) n) ∙ q) (begins (byte_at t p) k)).starts in
           record { on = h; solid_at = n; value = b }
 
-  pub value_from_lem : (p : ℕ) → run_at t val k p ≡ Whole → Scanned t (skip_of t p) k
+  pub value_from_lem : (p : ℕ) → run_at t val k p ≡ Ok tt → Scanned t (skip_of t p) k
   value_from_lem p h = value_here (skip_of t p) (solid t p) (skips val (λ b κ i. rw i) k t p h)
 
   -- it ends where the automaton is done with it
   pub scanned_ends : {p : ℕ} → Scanned t p k → run_at t val k p ≡ run_at t done k (end_of t p)
   scanned_ends {p} s = value_ends t p k s.solid_at s.on
 
-  pub behind : {p : ℕ} → Scanned t p k → run_at t done k (skip_of t (end_of t p)) ≡ Whole
+  pub behind : {p : ℕ} → Scanned t p k → run_at t done k (skip_of t (end_of t p)) ≡ Ok tt
   behind {p} s = skips done (λ b κ i. rw i) k t (end_of t p) (sym (scanned_ends s) ∙ s.on)
 
 -- ---- the text's value
-pub text_scanned : (t : List ℕ) → verdict t ≡ Whole → Scanned t (value_start t) []
+pub text_scanned : (t : List ℕ) → verdict t ≡ Ok tt → Scanned t (value_start t) []
 unfolding verdict run_at
 text_scanned t h = value_from_lem t [] 0 h
 
 -- behind it stands white space alone
-pub text_ends : (t : List ℕ) → verdict t ≡ Whole → skip_of t (end_of t (value_start t)) ≡ length t
+pub text_ends : (t : List ℕ) → verdict t ≡ Ok tt → skip_of t (end_of t (value_start t)) ≡ length t
 text_ends t h = go1 (dec_lt (skip_of t (end_of t (value_start t))) (length t))
   where
     s : Scanned t (value_start t) []

@@ -9,10 +9,10 @@ use lib.Dec.{eqb, ltb}
 use lib.ListN.{length, drop, get_or}
 use lib.Seq.{drop-drop, get_or-drop}
 use borrow.Author.Tests.{eqb-true}
+use Rattle.std.specs.Prelude.{Ok}
 use Rattle.answer.specs.declared.refusal.Why.TheVariants.{NotJson, NestedTooDeep}
 use Rattle.json_scan.specs.Json.{Mode, Num, Stack, Move, Bracket, go, die, deepest, inside, is_space, square, brace, as_value, plain, minus, nought, int, val, first, done, key0, key, colon, word, num, str, opens, word_of, digit1, simple, one, step, run}
 use Rattle.json_scan.specs.Meets.{run_at}
-use Rattle.json_scan.specs.declared.verdict.Scan.TheVariants.{Whole}
 use Rattle.ground.specs.Bytes.{byte_at}
 use Rattle.ground.proofs.Laws.{byte_at_lem}
 use Rattle.view.specs.Values.{count}
@@ -29,7 +29,7 @@ went f {m} {m'} {κ} {κ'} h = let a : m' ≡ m = cc in let c : κ' ≡ κ = cc 
 
 -- ---- the first byte of a value
 module _ (k : Stack) (s : List ℕ) (p : ℕ) where
-  string_ends : run val k p (34 ∷ s) ≡ Whole → blocks.Ends k (34 ∷ s) val [] p
+  string_ends : run val k p (34 ∷ s) ≡ Ok tt → blocks.Ends k (34 ∷ s) val [] p
   unfolding simple mode_after depth_after at_rest
   string_ends h = go1 (run_lives val k p 34 s h)
     where
@@ -40,7 +40,7 @@ module _ (k : Stack) (s : List ℕ) (p : ℕ) where
 
   module _ (b : ℕ) (x : Bracket) (m : Mode) (o : step val b k ≡ opens x m k) where
     bracket_ends : mode_after 0 b ≡ 0 → depth_after 0 b 0 ≡ 1 → in_mode m ≡ 0 → Good m
-        → run val k p (b ∷ s) ≡ Whole → blocks.Ends k (b ∷ s) val [] p
+        → run val k p (b ∷ s) ≡ Ok tt → blocks.Ends k (b ∷ s) val [] p
     bracket_ends i d z g h = go1 (ltb (length k) deepest) refl (subst (λ (y : Move). Lives y (λ m' κ'. run m' κ' (suc p) s)) o (run_lives val k p b s h))
       where
         go1 : (y : Bool) → ltb (length k) deepest ≡ y → Lives (cond y (go m (x ∷ k)) (die NestedTooDeep)) (λ m' κ'. run m' κ' (suc p) s) → blocks.Ends k (b ∷ s) val [] p
@@ -49,11 +49,11 @@ module _ (k : Stack) (s : List ℕ) (p : ℕ) where
             blocks.ends_later k s val m [] (x ∷ []) b p (o ∙ ap (λ (y : Bool). cond y (go m (x ∷ k)) (die NestedTooDeep)) e) (i ∙ sym z) d (blocks.open_still (in_mode m) 0)
             (rests k s m x [] (suc p) g (sym (went (λ m' κ'. run m' κ' (suc p) s) q) ∙ w))
 
-  array_ends : run val k p (91 ∷ s) ≡ Whole → blocks.Ends k (91 ∷ s) val [] p
+  array_ends : run val k p (91 ∷ s) ≡ Ok tt → blocks.Ends k (91 ∷ s) val [] p
   unfolding mode_after depth_after
   array_ends h = bracket_ends 91 square first refl refl refl refl tt h
 
-  object_ends : run val k p (123 ∷ s) ≡ Whole → blocks.Ends k (123 ∷ s) val [] p
+  object_ends : run val k p (123 ∷ s) ≡ Ok tt → blocks.Ends k (123 ∷ s) val [] p
   unfolding mode_after depth_after
   object_ends h = bracket_ends 123 brace key0 refl refl refl refl tt h
 
@@ -98,10 +98,10 @@ module _ (b : ℕ) (k : Stack) where
       (alt (eqb b 102) (go (word 97 (108 ∷ 115 ∷ 101 ∷ [])) k) _ (worded 102 97 (108 ∷ 115 ∷ 101 ∷ []) refl (refl, (refl, (refl, (refl, tt)))))
       (alt (eqb b 110) (go (word 117 (108 ∷ 108 ∷ [])) k) _ (worded 110 117 (108 ∷ 108 ∷ []) refl (refl, (refl, (refl, tt)))) digit_begun))))
 
-  literal_ends : (s : List ℕ) (p : ℕ) → step val b k ≡ simple b k → eqb b 34 ≡ false → run val k p (b ∷ s) ≡ Whole → literals.Ends k (b ∷ s) val p
+  literal_ends : (s : List ℕ) (p : ℕ) → step val b k ≡ simple b k → eqb b 34 ≡ false → run val k p (b ∷ s) ≡ Ok tt → literals.Ends k (b ∷ s) val p
   literal_ends s p o h l = go1 (subst (λ (y : Move). Lives y (λ m' κ'. run m' κ' (suc p) s)) o (run_lives val k p b s l))
     where
-      to : (m : Mode) (κ : Stack) → Begun' b k (go m κ) → simple b k ≡ go m κ → run m κ (suc p) s ≡ Whole → literals.Ends k (b ∷ s) val p
+      to : (m : Mode) (κ : Stack) → Begun' b k (go m κ) → simple b k ≡ go m κ → run m κ (suc p) s ≡ Ok tt → literals.Ends k (b ∷ s) val p
       to val κ v q w = absurd v
       to first κ v q w = absurd v
       to done κ v q w = absurd v
@@ -127,12 +127,12 @@ span b s = cond (is_block b) (to_rest 0 0 (b ∷ s)) (count is_token (b ∷ s))
 abbrev Over : Stack → List ℕ → ℕ → ℕ → Bool → Type 0
 Over k s p c x = run val k p (c ∷ s) ≡ run done k (p + cond x (to_rest 0 0 (c ∷ s)) (count is_token (c ∷ s))) (drop (cond x (to_rest 0 0 (c ∷ s)) (count is_token (c ∷ s))) (c ∷ s))
 
-list_ends : (k : Stack) (s : List ℕ) (p b : ℕ) → is_space b ≡ false → run val k p (b ∷ s) ≡ Whole
+list_ends : (k : Stack) (s : List ℕ) (p b : ℕ) → is_space b ≡ false → run val k p (b ∷ s) ≡ Ok tt
     → run val k p (b ∷ s) ≡ run done k (p + span b s) (drop (span b s) (b ∷ s))
 unfolding is_block
 list_ends k s p b n h = go1 (eqb b 34) refl (eqb b 91) refl (eqb b 123) refl
   where
-    whole_of : (c : ℕ) → eqb b c ≡ true → run val k p (c ∷ s) ≡ Whole
+    whole_of : (c : ℕ) → eqb b c ≡ true → run val k p (c ∷ s) ≡ Ok tt
     whole_of c i = ap (λ (x : ℕ). run val k p (x ∷ s)) (sym (eqb-true b c i)) ∙ h
 
     back : (c : ℕ) → eqb b c ≡ true → Over k s p c true → Over k s p b true
@@ -152,7 +152,7 @@ module _ (t : List ℕ) (p : ℕ) where
       let g : p + 0 ≡ p = omega arith in
       byte_at_lem t p ∙ sym (f ∙ ap (λ (x : ℕ). get_or t x 0) g) ∙ ap (λ (l : List ℕ). get_or l 0 0) e
 
-  pub value_ends : (k : Stack) → is_space (byte_at t p) ≡ false → run_at t val k p ≡ Whole → run_at t val k p ≡ run_at t done k (end_of t p)
+  pub value_ends : (k : Stack) → is_space (byte_at t p) ≡ false → run_at t val k p ≡ Ok tt → run_at t val k p ≡ run_at t done k (end_of t p)
   unfolding run_at end_of closing_of literal_end
   value_ends k n h = go1 (drop p t) refl
     where

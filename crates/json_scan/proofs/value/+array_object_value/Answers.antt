@@ -1,12 +1,10 @@
 -- The proof of the cycle of calls {array, object, value}. The measure is twice the brackets that may be opened, and one more for `array` and `object`.
 -- Assumes nothing.
 use mathlib.Core.Path.{refl, sym, ◌∙◌}
-use Prim.Native.Nat.{◌≤◌, ◌<◌}
 use native.Mathlib.Omega.{arith}
-use lib.ListN.{length}
 use Rattle.ground.proofs.Laws.{byte_at_lem}
 use Rattle.json_scan.specs.Json.{square, brace, first, key0}
-use Rattle.json_scan.proofs.Items.{lt_of_byte, too_deep, opened, simply, empty, entered, faulty, on_again, on_closed, on_stop, no_key, keyed}
+use Rattle.json_scan.proofs.Items.{lt_of_byte, too_deep, opened, simply, empty, entered}
 use Rattle.json_scan.proofs.value.+array_object_value.Goals as goal
 
 pub array-overflow_add-result : goal.array-overflow_add-result
@@ -20,28 +18,6 @@ array-returns-then-byte_at-eq93 t c = empty c.args.text.now c.args.from c.skip-s
 pub array-loop-e-init : goal.array-loop-e-init
 array-loop-e-init t c = entered c.args.text.now c.args.from c.skip-start.result c.args.left square c.skip-start.ensures (λ e. c.if-byte_at-eq93.false ((c.byte_at.ensures ∙ byte_at_lem _ _) ∙ e))
 
-pub array-value-requires : goal.array-value-requires
-array-value-requires t c = (omega arith, tt)
-
-pub array-returns-in-Fails : goal.array-returns-in-Fails
-array-returns-in-Fails t c = faulty c.args.text.now c.args.from c.loop-e.at c.args.left square c.loop-e.invariant _ c.value.ensures _ c.in-Fails.is
-
-pub array-loop-e-smaller : goal.array-loop-e-smaller
-array-loop-e-smaller t c =
-    let o = on_again c.args.text.now c.args.from c.loop-e.at c.args.left square c.loop-e.invariant _ c.value.ensures _ c.in-Next.is _ c.next_item.ensures _ c.in-Again.is in
-    let h : c.loop-e.at < c.in-Again.a = o.1 in
-    let g : c.in-Again.a ≤ length c.args.text.now = o.2 in
-    omega arith
-
-pub array-loop-e-preserved : goal.array-loop-e-preserved
-array-loop-e-preserved t c = (on_again c.args.text.now c.args.from c.loop-e.at c.args.left square c.loop-e.invariant _ c.value.ensures _ c.in-Next.is _ c.next_item.ensures _ c.in-Again.is).0
-
-pub array-returns-in-Closed : goal.array-returns-in-Closed
-array-returns-in-Closed t c = on_closed c.args.text.now c.args.from c.loop-e.at c.args.left square c.loop-e.invariant _ c.value.ensures _ c.in-Next.is _ c.next_item.ensures _ c.in-Closed.is
-
-pub array-returns-in-Stop : goal.array-returns-in-Stop
-array-returns-in-Stop t c = on_stop c.args.text.now c.args.from c.loop-e.at c.args.left square c.loop-e.invariant _ c.value.ensures _ c.in-Next.is _ c.next_item.ensures _ c.in-Stop.is
-
 pub object-overflow_add-result : goal.object-overflow_add-result
 object-overflow_add-result t c =
     let h = lt_of_byte c.args.text.now c.skip-start.result 125 (sym ((c.byte_at.ensures ∙ byte_at_lem _ _)) ∙ c.if-byte_at-eq125.true) (omega arith) in
@@ -53,31 +29,6 @@ object-returns-then-byte_at-eq125 t c = empty c.args.text.now c.args.from c.skip
 pub object-loop-v-init : goal.object-loop-v-init
 object-loop-v-init t c = entered c.args.text.now c.args.from c.skip-start.result c.args.left brace c.skip-start.ensures (λ e. c.if-byte_at-eq125.false ((c.byte_at.ensures ∙ byte_at_lem _ _) ∙ e))
 
-pub object-returns-in-Fails : goal.object-returns-in-Fails
-object-returns-in-Fails t c = faulty c.args.text.now c.args.from c.loop-v.at c.args.left brace c.loop-v.invariant _ (no_key c.args.text.now c.loop-v.at c.args.left _ c.key.ensures _ c.in-Fails.is) _ refl
-
-pub object-value-requires : goal.object-value-requires
-object-value-requires t c = (omega arith, tt)
-
-pub object-returns-in-Fails-value : goal.object-returns-in-Fails-value
-object-returns-in-Fails-value t c = faulty c.args.text.now c.args.from c.loop-v.at c.args.left brace c.loop-v.invariant _ (keyed c.args.text.now c.loop-v.at c.args.left _ c.key.ensures _ c.in-Next.is _ c.value.ensures) _ c.in-Fails-value.is
-
-pub object-loop-v-smaller : goal.object-loop-v-smaller
-object-loop-v-smaller t c =
-    let o = on_again c.args.text.now c.args.from c.loop-v.at c.args.left brace c.loop-v.invariant _ (keyed c.args.text.now c.loop-v.at c.args.left _ c.key.ensures _ c.in-Next.is _ c.value.ensures) _ c.in-Next-value.is _ c.next_item.ensures _ c.in-Again.is in
-    let h : c.loop-v.at < c.in-Again.a = o.1 in
-    let g : c.in-Again.a ≤ length c.args.text.now = o.2 in
-    omega arith
-
-pub object-loop-v-preserved : goal.object-loop-v-preserved
-object-loop-v-preserved t c = (on_again c.args.text.now c.args.from c.loop-v.at c.args.left brace c.loop-v.invariant _ (keyed c.args.text.now c.loop-v.at c.args.left _ c.key.ensures _ c.in-Next.is _ c.value.ensures) _ c.in-Next-value.is _ c.next_item.ensures _ c.in-Again.is).0
-
-pub object-returns-in-Closed : goal.object-returns-in-Closed
-object-returns-in-Closed t c = on_closed c.args.text.now c.args.from c.loop-v.at c.args.left brace c.loop-v.invariant _ (keyed c.args.text.now c.loop-v.at c.args.left _ c.key.ensures _ c.in-Next.is _ c.value.ensures) _ c.in-Next-value.is _ c.next_item.ensures _ c.in-Closed.is
-
-pub object-returns-in-Stop : goal.object-returns-in-Stop
-object-returns-in-Stop t c = on_stop c.args.text.now c.args.from c.loop-v.at c.args.left brace c.loop-v.invariant _ (keyed c.args.text.now c.loop-v.at c.args.left _ c.key.ensures _ c.in-Next.is _ c.value.ensures) _ c.in-Next-value.is _ c.next_item.ensures _ c.in-Stop.is
-
 pub value-returns-then-left-eq0 : goal.value-returns-then-left-eq0
 value-returns-then-left-eq0 t c = too_deep c.args.text.now c.args.from c.skip-at.result c.args.left c.skip-at.ensures 91 square first (sym ((c.byte_at-b.ensures ∙ byte_at_lem _ _)) ∙ c.if-b-eq91.true) (omega arith) (λ k. refl) c.if-left-eq0.true
 
@@ -86,9 +37,6 @@ value-overflow_add-at t c =
     let h = lt_of_byte c.args.text.now c.skip-at.result 91 (sym ((c.byte_at-b.ensures ∙ byte_at_lem _ _)) ∙ c.if-b-eq91.true) (omega arith) in
     omega arith
 
-pub value-array-requires : goal.value-array-requires
-value-array-requires t c = (omega arith, tt)
-
 pub value-returns-then-left-eq0-2 : goal.value-returns-then-left-eq0-2
 value-returns-then-left-eq0-2 t c = too_deep c.args.text.now c.args.from c.skip-at.result c.args.left c.skip-at.ensures 123 brace key0 (sym ((c.byte_at-b.ensures ∙ byte_at_lem _ _)) ∙ c.if-b-eq123.true) (omega arith) (λ k. refl) c.if-left-eq0-2.true
 
@@ -96,9 +44,6 @@ pub value-overflow_add-at-then-b-eq123 : goal.value-overflow_add-at-then-b-eq123
 value-overflow_add-at-then-b-eq123 t c =
     let h = lt_of_byte c.args.text.now c.skip-at.result 123 (sym ((c.byte_at-b.ensures ∙ byte_at_lem _ _)) ∙ c.if-b-eq123.true) (omega arith) in
     omega arith
-
-pub value-object-requires : goal.value-object-requires
-value-object-requires t c = (omega arith, tt)
 
 pub value-scalar-requires : goal.value-scalar-requires
 value-scalar-requires t c = (c.byte_at-b.ensures ∙ byte_at_lem _ _)

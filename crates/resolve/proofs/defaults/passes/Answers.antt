@@ -1,13 +1,9 @@
 -- `resolve::defaults::passes` meets its contract.
 -- Assumes nothing.
-use mathlib.Core.Path.{sym, ap, ◌∙◌}
+use mathlib.Core.Path.{ap, ◌∙◌}
 use Rattle.resolve.specs.Rules.{passes}
 use Rattle.resolve.proofs.defaults.passes.Goals as goal
 
-pub returns-in-Whole : goal.returns-in-Whole
+pub returns : goal.returns
 unfolding passes
-returns-in-Whole c = sym (ap passes c.in-Whole.is) ∙ ap passes c.scan.ensures
-
-pub returns-in-Err : goal.returns-in-Err
-unfolding passes
-returns-in-Err c = sym (ap passes c.in-Err.is) ∙ ap passes c.scan.ensures
+returns c = c.is_ok.ensures.value ∙ ap passes c.scan.ensures
