@@ -1,6 +1,6 @@
 -- What the readers' steps come to, over plain values.
 -- Assumes nothing.
-use mathlib.Core.Path.{◌≡◌, refl, sym, ap, ◌∙◌}
+use mathlib.Core.Path.{◌≡◌, sym, ap, ◌∙◌}
 use mathlib.Core.List.{List}
 use Prim.Native.Nat.{ℕ, suc, ◌+◌, ◌-◌, ◌*◌, ◌<◌, ◌≤◌, min}
 use native.Mathlib.Decide.{dec_le}
@@ -12,7 +12,7 @@ use borrow.Author.Tests.{eq-eqb, ne_eqb}
 use Rattle.answer.specs.declared.counts.Counts.{Counts}
 use Rattle.answer.specs.Limits.{counts_of}
 use Rattle.ground.specs.Bytes.{part}
-use Rattle.row.specs.Kinds.{kind_number, kind_of}
+use Rattle.row.specs.Kinds.{kind_of}
 use Rattle.row.specs.Numbers.{le, number}
 use Rattle.row.specs.Layout.{row_size, rows_start, string_limit, strings_start, layout_length}
 use Rattle.row.specs.Rows.{entry_of, text_of, text_start, text_length, default_of, default_length, strings_length}

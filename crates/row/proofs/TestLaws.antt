@@ -10,11 +10,10 @@ use lib.Dec.{eqb, leb}
 use lib.ListN.{length, drop, get_or}
 use lib.Seq.{drop-drop}
 use borrow.Author.Tests.{eq-eqb, ne_eqb, le-leb, lt-leb, leb-true}
-use Rattle.ground.specs.Bytes.{part, all_zero}
 use Rattle.ground.proofs.Laws.{and_true}
 use Rattle.row.specs.Kinds.{kind_number, kind_of}
 use Rattle.row.specs.Numbers.{number}
-use Rattle.row.specs.Layout.{declaration_limit, row_limit, string_limit, header_size, row_size, rows_start, strings_start, layout_length}
+use Rattle.row.specs.Layout.{declaration_limit, row_limit, string_limit, row_size, rows_start, layout_length}
 use Rattle.row.specs.Rows.{text_start, strings_length}
 use Rattle.row.specs.Sets.{count_in, is_encoding}
 use Rattle.row.specs.Memory.{from_row, rows_before}

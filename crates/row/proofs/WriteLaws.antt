@@ -1,25 +1,24 @@
 -- What the writers' steps come to, over plain values.
 -- Assumes nothing.
-use mathlib.Core.Path.{◌≡◌, refl, sym, ap, ap₂, ◌∙◌}
+use mathlib.Core.Path.{◌≡◌, refl, sym, ap, ◌∙◌}
 use mathlib.Core.Bool.{true, false}
 use mathlib.Core.List.{List, [], ◌∷◌, ◌++◌}
-use Prim.Native.Nat.{ℕ, zero, suc, ◌+◌, ◌-◌, ◌*◌, ◌<◌, ◌≤◌, min}
+use Prim.Native.Nat.{ℕ, suc, ◌+◌, ◌-◌, ◌*◌, ◌<◌, ◌≤◌, min}
 use native.Mathlib.Decide.{dec_le}
-use native.Mathlib.Nat.{add-zero, sub-zero}
-use native.Mathlib.Numerals.{add-one}
+use native.Mathlib.Nat.{add-zero}
 use native.Mathlib.Omega.{arith}
-use lib.Dec.{leb, ltb}
-use lib.ListN.{length, take, drop, get_or, set, drop_of_length-le, replicate-append-replicate}
-use lib.Seq.{take-suc-set, take_all, drop-drop, drop-cons}
-use borrow.Author.Tests.{lt-ltb, le-ltb, le-leb, lt-leb, ltb-true, leb-true}
+use lib.Dec.{ltb}
+use lib.ListN.{length, drop}
+use lib.Seq.{drop-drop}
+use borrow.Author.Tests.{le-leb, lt-leb, ltb-true, leb-true}
 use Rattle.answer.specs.declared.counts.Counts.{Counts}
 use Rattle.answer.specs.Limits.{counts_of}
 use Rattle.ground.specs.Bytes.{store}
 use Rattle.ground.proofs.Laws.{and_true, store_then}
 use Rattle.ground.specs.Numbers.{low_first}
 use Rattle.row.specs.Layout.{row_limit, string_limit, row_size, rows_start, strings_start}
-use Rattle.row.specs.Rows.{Row, row_of, with_default, strings_of, encode_front, encode_row, rows_of}
-use Rattle.row.specs.Sets.{zeros, rows_from}
+use Rattle.row.specs.Rows.{Row, row_of, with_default, strings_of, encode_row, rows_of}
+use Rattle.row.specs.Sets.{rows_from}
 use Rattle.row.specs.Memory.{entry_at, text_at, default_at, row_at, most, counted, has_room, written, pushed, counted_all, pushed_all, declared}
 use Rattle.row.specs.declared.Entry.{Entry}
 use Rattle.row.proofs.RowLaws.{length_strings}

@@ -1,6 +1,5 @@
 -- `row::write::push_rows` meets its contract. The invariant: the rows left, pushed, give what all of them give.
 -- Assumes nothing.
-use mathlib.Core.Path.{refl}
 use Prim.Native.Nat.{◌+◌}
 use native.Mathlib.Omega.{arith}
 use Rattle.row.proofs.WriteLaws.{push_start, push_turn, push_end}
