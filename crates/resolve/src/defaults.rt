@@ -25,6 +25,7 @@ fn passes(text: &[u8]) -> bool
 }
 
 // Is the first byte no white space, and the last none?
+#[tactic(auto, using(crate::proofs::DefaultLaws::cut_none), unfolding(ground::specs::Bytes::byte_at))]
 fn is_cut(text: &[u8]) -> bool
     ensures { result ≡ (not (is_space (byte_at text.now 0)) && not (is_space (byte_at text.now (length text.now - 1)))) }
 {

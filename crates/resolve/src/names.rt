@@ -8,7 +8,7 @@ ghost use Rattle.row.specs.Memory.{text_at, row_at};
 ghost use Rattle.resolve.specs.Resolve.{defines, is_defined, definition_in, fault_of, fault_in};
 ghost use Rattle.resolve.specs.Steps.{Sized, is_named_at, KeepsNames, first_with, next_with};
 
-use crate::kinds::is_definition;
+use crate::kinds::{is_definition, is_named};
 use answer::{Fault, Why};
 use chains::{SLOTS, at, enter, mark, slot};
 use ground::same;
@@ -109,16 +109,29 @@ fn fault_of(
         × Sized first.now next.now × KeepsNames set.now earlier from.now start first.now next.now (earlier + i) }
     ensures { result ≡ fault_of (rows_from set.now earlier 0 ++ rows_from from.now i start) (row_at from.now (start + i)) }
 {
-    let kind = kind_at(from, start + i);
-    let name = string_of(from, start + i);
-    let at = position_at(from, start + i);
-    if is_definition(kind) && is_known(set, earlier, from, start, i, first, next, name) {
+    let row = start + i;
+    let kind = kind_at(from, row);
+    if !is_named(kind) {
+        return Ok(());
+    }
+    let known = is_known(
+        set,
+        earlier,
+        from,
+        start,
+        i,
+        first,
+        next,
+        string_of(from, row),
+    );
+    let at = position_at(from, row);
+    if known && is_definition(kind) {
         return Err(Fault {
             why: Why::DefinedAlready,
             at,
         });
     }
-    if kind == Kind::Reference && !is_known(set, earlier, from, start, i, first, next, name) {
+    if !known && kind == Kind::Reference {
         return Err(Fault {
             why: Why::ReferenceUnknown,
             at,
@@ -128,6 +141,7 @@ fn fault_of(
 }
 
 // Row i is entered as number a under its name, if it is a definition.
+#[tactic(auto, unfolding(crate::specs::Steps::first_with, crate::specs::Steps::next_with))]
 fn enter_row(mem: &[u8], i: usize, a: usize, first: &mut [u16], next: &mut [u16])
     requires { (length mem.now ≡ layout_length) × (i < row_limit) × (a < slots) × Sized first.old next.old }
     ensures { (first.new ≡ first_with (row_at mem.now i) a first.old)
