@@ -1,6 +1,6 @@
 -- Resolution of names: 25 and 26 over the rows of a set in order. Aliases take no part.
 -- Assumes nothing.
-use Rattle.std.specs.Prelude.{ℕ, Bool, true, false, not, cond, ◌&&◌, List, [], ◌∷◌, ◌++◌, Result, Ok, Err}
+use Rattle.std.specs.Prelude.{ℕ, Bool, true, false, not, cond, ◌&&◌, List, [], ◌∷◌, ◌++◌, Result, Ok, Err, is_ok}
 use Rattle.answer.specs.declared.refusal.Fault.{Fault}
 use Rattle.answer.specs.declared.refusal.Why.{Why}
 use Rattle.answer.specs.declared.refusal.Why.TheVariants.{DefinedAlready, ReferenceUnknown}
@@ -46,8 +46,7 @@ fault_in earlier [] = Ok tt
 fault_in earlier (r ∷ rows) = or_else (fault_of earlier r) (fault_in (earlier ++ (r ∷ [])) rows)
 
 abbrev pub is_resolved : Resolution → Bool
-is_resolved (Ok _) = true
-is_resolved (Err f) = false
+is_resolved r = is_ok r
 
 -- 25 and 26 are nowhere in a set
 unfoldable pub resolves : List (List Row) → Bool

@@ -8,6 +8,7 @@ use native.Mathlib.Omega.{arith}
 use lib.Dec.{ltb}
 use lib.ListN.{length, length-append}
 use borrow.Author.Tests.{lt-ltb, le-ltb}
+use Rattle.std.specs.Prelude.{Ok, Err}
 use Rattle.answer.specs.declared.Answer.{Answer}
 use Rattle.answer.specs.declared.Answer.TheVariants.{Done, Refused}
 use Rattle.answer.specs.Answers.{numbers_of, of_counts}
@@ -25,10 +26,8 @@ use Rattle.row.specs.Memory.{counts_in, set_counts, counted_all, pushed_all, dec
 use Rattle.row.proofs.RowLaws.{texts_append}
 use Rattle.row.proofs.SetLaws.{flat_append}
 use Rattle.row.proofs.Laws.{counted_small, append_encode}
-use Rattle.resolve.specs.Resolve.{fault_in}
+use Rattle.resolve.specs.Resolve.{Resolution, fault_in}
 use Rattle.formed.specs.WellFormed.{well_formed}
-use Rattle.resolve.specs.declared.Resolution.{Resolution}
-use Rattle.resolve.specs.declared.Resolution.TheVariants.{Resolved, Faulty}
 use Rattle.resolve.proofs.MemoryLaws.{length_rows}
 use Rattle.formed.proofs.Laws.{more_within}
 use Rattle.set.specs.Lists.{Result, becomes, refuses, on_resolved}
@@ -161,11 +160,11 @@ module _ (m : List ℕ) (w : well_formed m ≡ true) (c : Counts) (e : c ≡ cou
           unfolding joined
           tested rows d = rw (rows_pass rows d, strings_pass rows d, ← faults rows d)
 
-          pub join_fault : {x : Fault} → f ≡ Faulty x → (rows : List Row) → Drafted «from» start n bytes rows → {r : Refusal} → r ≡ placed x c.declarations
+          pub join_fault : {x : Fault} → f ≡ Err x → (rows : List Row) → Drafted «from» start n bytes rows → {r : Refusal} → r ≡ placed x c.declarations
               → Ended m m (Refused r) (joined (decode m) rows)
           join_fault b rows d g = rw g (ended_no m _ (tested rows d ∙ rw (b, places_are)))
 
-          module _ (room : count_in m < declaration_limit) (b : f ≡ Resolved) where
+          module _ (room : count_in m < declaration_limit) (b : f ≡ Ok tt) where
             more_is : (rows : List Row) → Drafted «from» start n bytes rows → Within (decode m ++ (rows ∷ []))
             more_is rows d =
                 more_within (decode m) rows (is_good m w) (omega (arith, is_count m w)) (omega (arith, rows_are, rows_most, d.counted)) (omega (arith, bytes_are, bytes_most, d.strings)) d.kept
