@@ -1,6 +1,6 @@
 -- Two refusals with one number are one refusal, and two answers with the same numbers are one answer.
 -- Assumes nothing.
-use Rattle.std.specs.Prelude.{Ok, Err, Result}
+use Rattle.std.specs.Prelude.{Ok, Err}
 use mathlib.Core.Path.{◌≡◌, refl, sym, ap, ◌∙◌}
 use mathlib.Core.Bool.{cond}
 use mathlib.Core.List.{List, [], ◌∷◌}
@@ -14,7 +14,7 @@ use Rattle.answer.specs.declared.counts.Counts.{Counts}
 use Rattle.answer.specs.declared.refusal.Refusal.{Refusal}
 use Rattle.answer.specs.declared.numbers.Numbers.{Numbers}
 use Rattle.answer.specs.Numbers.{number_of}
-use Rattle.answer.specs.Answers.{accepted, of_counts, of_refusal, numbers_of}
+use Rattle.answer.specs.Answers.{accepted, of_counts, of_refusal, numbers_of, Answer}
 
 -- the cases from 1 on in the order of their numbers, those from 40 on, and the one that has a number
 cases : List Why
@@ -141,7 +141,7 @@ counts_one c d e = λ i. record { declarations = first e i; rows = second e i; s
 pub never_both : (r : Refusal) (a b c : ℕ) → of_refusal r ≡ accepted a b c → ⊥
 never_both r a b c e = never_zero r.why (number e)
 
-pub numbers_one : (a b : Result Counts Refusal) → numbers_of a ≡ numbers_of b → a ≡ b
+pub numbers_one : (a b : Answer Counts) → numbers_of a ≡ numbers_of b → a ≡ b
 numbers_one (Ok c) (Ok d) e = ap Ok (counts_one c d e)
 numbers_one (Ok c) (Err s) e = absurd (never_both s _ _ _ (sym e))
 numbers_one (Err r) (Ok d) e = absurd (never_both r _ _ _ e)

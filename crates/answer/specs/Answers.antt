@@ -22,7 +22,11 @@ of_counts c = accepted c.declarations c.rows c.string_bytes
 abbrev pub of_refusal : Refusal → Numbers
 of_refusal r = refused (number_of r.why) r.place r.at
 
+-- a result, or a refusal
+abbrev pub Answer : Type 0 → Type 0
+Answer A = Result A Refusal
+
 -- what open and put answer
-abbrev pub numbers_of : Result Counts Refusal → Numbers
+abbrev pub numbers_of : Answer Counts → Numbers
 numbers_of (Ok c) = of_counts c
 numbers_of (Err r) = of_refusal r

@@ -1,5 +1,5 @@
 -- What was read, as one number. Assumes nothing.
-use Rattle.std.specs.Prelude.{Ok, Err, Result}
+use Rattle.std.specs.Prelude.{Ok, Err}
 use mathlib.Core.Path.{◌≡◌, sym, ap, ◌∙◌}
 use mathlib.Core.List.{List}
 use Prim.Native.Nat.{ℕ}
@@ -11,7 +11,7 @@ use Rattle.schema.specs.Did.{Did}
 use borrow.Author.Tests.{ne_eqb}
 use Rattle.answer.specs.declared.refusal.Refusal.{Refusal}
 use Rattle.answer.specs.Numbers.{number_of}
-use Rattle.answer.specs.Answers.{of_refusal, numbers_of}
+use Rattle.answer.specs.Answers.{of_refusal, numbers_of, Answer}
 use Rattle.answer.proofs.Laws.{never_zero}
 use Rattle.canonical.specs.Calls.{numbers_of_written}
 use Rattle.canonical.specs.declared.answers.Written.{Written}
@@ -46,8 +46,8 @@ no_length r = rw (ne_eqb (number_of r.why) 0 (never_zero r.why))
 no_offsets : (r : Refusal) → offsets_in (of_refusal r) ≡ 0
 no_offsets r = rw (ne_eqb (number_of r.why) 0 (never_zero r.why))
 
-pub rows_none : {a : Result Counts Refusal} {r : Refusal} → a ≡ Err r → 0 ≡ rows_in (numbers_of a)
-rows_none {r = r} e = sym (ap (λ (x : Result Counts Refusal). rows_in (numbers_of x)) e ∙ no_rows r)
+pub rows_none : {a : Answer Counts} {r : Refusal} → a ≡ Err r → 0 ≡ rows_in (numbers_of a)
+rows_none {r = r} e = sym (ap (λ (x : Answer Counts). rows_in (numbers_of x)) e ∙ no_rows r)
 
 pub length_none : {w : Written} {r : Refusal} → w ≡ written.Refused r → 0 ≡ length_in (numbers_of_written w)
 length_none {r = r} e = sym (ap (λ (x : Written). length_in (numbers_of_written x)) e ∙ no_length r)

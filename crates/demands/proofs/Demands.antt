@@ -1,15 +1,14 @@
--- THE THREE DEMANDS on a set, over what its calls promise (crate `set`: specs/Calls and specs/Result ℕ Refusal). The words are those of specs/Building.
+-- THE THREE DEMANDS on a set, over what its calls promise (crate `set`: specs/Calls and specs/Answer ℕ). The words are those of specs/Building.
 -- Answers stand here in 01's numbers, as in the promises (crate `answer`: specs/Answers): `.number` is 0 where a call is accepted, and then `.first`,
 -- `.second`, `.third` are the set's counts; else it is the refusal's, `.first` the declaration's place, `.second` the byte position.
 -- Assumes nothing.
-use Rattle.std.specs.Prelude.{Result}
 use mathlib.Core.Path.{◌≡◌, sym, ◌∙◌}
 use mathlib.Core.Bool.{true, false}
 use mathlib.Core.List.{List, [], ◌∷◌, ◌++◌}
 use Prim.Native.Nat.{ℕ, ◌+◌, ◌^◌, ◌<◌, ◌≤◌}
 use lib.ListN.{length, take}
 use Rattle.answer.specs.declared.counts.Counts.{Counts}
-use Rattle.answer.specs.Answers.{accepted, refused, of_counts, numbers_of}
+use Rattle.answer.specs.Answers.{accepted, refused, of_counts, numbers_of, Answer}
 use Rattle.answer.proofs.Laws.{numbers_one}
 use Rattle.decimals.specs.Limits.{largest_number}
 use Rattle.row.specs.Layout.{declaration_limit, strings_start, layout_length}
@@ -36,7 +35,6 @@ use Rattle.demands.proofs.Staying.{put_front, put_later}
 use Rattle.demands.proofs.Refusals.{formed_said, formed_only, nowhere_said, nowhere_only, full_said, full_only, put_tells}
 use Rattle.demands.proofs.Named.{full_formed, name_of, nameless_if, nameless_only, nameless_said, calls_agree, start_of, apart, set_row}
 use Rattle.demands.proofs.Fitting.{row_fits}
-use Rattle.answer.specs.declared.refusal.Refusal.{Refusal}
 
 -- ---- DEMAND 1: each public result is described fully, refusal or not, together with the lent bytes afterwards
 
@@ -45,20 +43,20 @@ pub one {ℓ} : {A : Type ℓ} {x y z : A} → x ≡ z → y ≡ z → x ≡ y
 one p q = p ∙ sym q
 
 -- an answer's numbers tell the answer: nothing is lost where promises and theorems speak of the numbers
-pub answer_told : (a b : Result Counts Refusal) → numbers_of a ≡ numbers_of b → a ≡ b
+pub answer_told : (a b : Answer Counts) → numbers_of a ≡ numbers_of b → a ≡ b
 answer_told = numbers_one
 
-pub naming_told : (a b : Result ℕ Refusal) → numbers_of_naming a ≡ numbers_of_naming b → a ≡ b
+pub naming_told : (a b : Answer ℕ) → numbers_of_naming a ≡ numbers_of_naming b → a ≡ b
 naming_told = naming_one
 
 -- answer and memory together
-pub outcome_one : (m : List ℕ) (r : Result) (a b : Result Counts Refusal × List ℕ) → Allowed m r a → Allowed m r b → a ≡ b
+pub outcome_one : (m : List ℕ) (r : Result) (a b : Answer Counts × List ℕ) → Allowed m r a → Allowed m r b → a ≡ b
 outcome_one m r a b p q = λ i. (answer_told a.0 b.0 (one p.0 q.0) i, one p.1 q.1 i)
 
-pub open_one : (m : List ℕ) (a b : Result Counts Refusal × List ℕ) → Allowed m (opened m) a → Allowed m (opened m) b → a ≡ b
+pub open_one : (m : List ℕ) (a b : Answer Counts × List ℕ) → Allowed m (opened m) a → Allowed m (opened m) b → a ≡ b
 open_one m = outcome_one m (opened m)
 
-pub put_one : (m : List ℕ) (place : ℕ) (text : List ℕ) (a b : Result Counts Refusal × List ℕ) → Allowed m (put m place text) a → Allowed m (put m place text) b → a ≡ b
+pub put_one : (m : List ℕ) (place : ℕ) (text : List ℕ) (a b : Answer Counts × List ℕ) → Allowed m (put m place text) a → Allowed m (put m place text) b → a ≡ b
 put_one m place text = outcome_one m (put m place text)
 
 -- a full name: its bytes, and the pointer to them, where memory's own is `first`
@@ -66,7 +64,7 @@ pub full_name_one : (m : List ℕ) (first : ℕ × ℕ) (place i : ℕ) (a b : L
     → (b.0 ≡ full_name_in m place i) × (b.1 ≡ behind first (full_name_start m place i)) → a ≡ b
 full_name_one m first place i a b p q = λ k. (one p.0 q.0 k, one p.1 q.1 k)
 
-pub naming_of_one : (m : List ℕ) (place i : ℕ) (a b : Result ℕ Refusal) → numbers_of_naming a ≡ naming_of m place i → numbers_of_naming b ≡ naming_of m place i → a ≡ b
+pub naming_of_one : (m : List ℕ) (place i : ℕ) (a b : Answer ℕ) → numbers_of_naming a ≡ naming_of m place i → numbers_of_naming b ≡ naming_of m place i → a ≡ b
 naming_of_one m place i a b p q = naming_told a b (one p q)
 
 -- a refusal writes nothing

@@ -8,6 +8,7 @@ use native.Mathlib.Omega.{arith}
 use lib.Dec.{ltb}
 use lib.ListN.{length}
 use borrow.Author.Tests.{le-ltb, ltb-true, ltb-false}
+use Rattle.std.specs.Prelude.{Ok, Err}
 use Rattle.answer.specs.Places.{placed}
 use Rattle.answer.specs.declared.refusal.Why.{Why}
 use Rattle.answer.specs.declared.refusal.Why.TheVariants.{TooManyRows, TooManyStringBytes, DefinedAlready, ReferenceUnknown, DefaultDoesNotFit}
@@ -21,9 +22,7 @@ use Rattle.row.specs.Sets.{flat}
 use Rattle.row.specs.declared.kind.Kind.TheVariants.{Reference}
 use Rattle.resolve.specs.Kinds.{is_kind, is_definition}
 use Rattle.resolve.specs.Rules.{some}
-use Rattle.resolve.specs.Resolve.{defines, is_defined, faulty, fault_of, or_else, fault_in}
-use Rattle.resolve.specs.declared.Resolution.{Resolution}
-use Rattle.resolve.specs.declared.Resolution.TheVariants.{Resolved, Faulty}
+use Rattle.resolve.specs.Resolve.{Resolution, defines, is_defined, faulty, fault_of, or_else, fault_in}
 use Rattle.fits.specs.Misfits.{default_fits, misfit, misfit_in}
 use Rattle.set.specs.Lists.{becomes, refuses, refuse, on_resolved, append, put_in}
 use Rattle.demands.specs.Building.{Defines, here, later, Clean, EachFits, Joins, Broken, twice, unknown, FirstBroken, FirstMisfit, this, further, Barred, many_rows, many_bytes, bad_name, bad_default}
@@ -58,31 +57,31 @@ record Passes (earlier : List Row) (r : Row) : Type 0 where
   new : is_definition r.kind ≡ true → Defines earlier r.text → ⊥
   known : is_kind Reference r.kind ≡ true → Defines earlier r.text
 
-row_passes : (earlier : List Row) (r : Row) → fault_of earlier r ≡ Resolved → Passes earlier r
+row_passes : (earlier : List Row) (r : Row) → fault_of earlier r ≡ Ok tt → Passes earlier r
 unfolding fault_of
 row_passes earlier r e = go (is_definition r.kind) (is_kind Reference r.kind) (is_defined earlier r.text) refl refl refl e
   where
-    no : {A : Type 0} {f : Fault} → Faulty f ≡ Resolved → A
+    no : {A : Type 0} {f : Fault} → Err f ≡ Ok tt → A
     no z = let y : ◌≡◌ {A = ℕ} 0 1 = cc in absurd (omega arith)
 
     go : (a b d : Bool) → is_definition r.kind ≡ a → is_kind Reference r.kind ≡ b → is_defined earlier r.text ≡ d
-        → cond (a && d) (faulty DefinedAlready r) (cond (b && not d) (faulty ReferenceUnknown r) Resolved) ≡ Resolved → Passes earlier r
+        → cond (a && d) (faulty DefinedAlready r) (cond (b && not d) (faulty ReferenceUnknown r) (Ok tt)) ≡ Ok tt → Passes earlier r
     go true b true p q z f = no f
     go true b false p q z f = last b q f
       where
-        last : (b : Bool) → is_kind Reference r.kind ≡ b → cond (b && true) (faulty ReferenceUnknown r) Resolved ≡ Resolved → Passes earlier r
+        last : (b : Bool) → is_kind Reference r.kind ≡ b → cond (b && true) (faulty ReferenceUnknown r) (Ok tt) ≡ Ok tt → Passes earlier r
         last true w g = no g
         last false w g = record { new = λ h. defined_no earlier r.text z; known = λ h. never (sym w ∙ h) }
     go false true true p q z f = record { new = λ h. never (sym p ∙ h); known = λ h. defined_yes earlier r.text z }
     go false true false p q z f = no f
     go false false d p q z f = record { new = λ h. never (sym p ∙ h); known = λ h. never (sym q ∙ h) }
 
-passes_row : (earlier : List Row) (r : Row) → Passes earlier r → fault_of earlier r ≡ Resolved
+passes_row : (earlier : List Row) (r : Row) → Passes earlier r → fault_of earlier r ≡ Ok tt
 unfolding fault_of
 passes_row earlier r h = go (is_definition r.kind) (is_kind Reference r.kind) (is_defined earlier r.text) refl refl refl
   where
     go : (a b d : Bool) → is_definition r.kind ≡ a → is_kind Reference r.kind ≡ b → is_defined earlier r.text ≡ d
-        → cond (a && d) (faulty DefinedAlready r) (cond (b && not d) (faulty ReferenceUnknown r) Resolved) ≡ Resolved
+        → cond (a && d) (faulty DefinedAlready r) (cond (b && not d) (faulty ReferenceUnknown r) (Ok tt)) ≡ Ok tt
     go true b true p q z = absurd (h.new p (defined_yes earlier r.text z))
     go true true false p q z = absurd (defined_no earlier r.text z (h.known q))
     go true false false p q z = refl
@@ -90,18 +89,18 @@ passes_row earlier r h = go (is_definition r.kind) (is_kind Reference r.kind) (i
     go false true false p q z = absurd (defined_no earlier r.text z (h.known q))
     go false false d p q z = refl
 
-row_broken : (earlier : List Row) (r : Row) (f : Fault) → fault_of earlier r ≡ Faulty f → Broken earlier r f.why × (f.at ≡ r.position)
+row_broken : (earlier : List Row) (r : Row) (f : Fault) → fault_of earlier r ≡ Err f → Broken earlier r f.why × (f.at ≡ r.position)
 unfolding fault_of
 row_broken earlier r f e = go (is_definition r.kind) (is_kind Reference r.kind) (is_defined earlier r.text) refl refl refl e
   where
-    is : {w : Why} → faulty w r ≡ Faulty f → Broken earlier r w → Broken earlier r f.why × (f.at ≡ r.position)
+    is : {w : Why} → faulty w r ≡ Err f → Broken earlier r w → Broken earlier r f.why × (f.at ≡ r.position)
     is {w} z b = let y : record { why = w; at = r.position } ≡ f = cc in rw (← y) (b, refl)
 
-    no : {A : Type 0} → Resolved ≡ Faulty f → A
+    no : {A : Type 0} → Ok tt ≡ Err f → A
     no z = let y : ◌≡◌ {A = ℕ} 0 1 = cc in absurd (omega arith)
 
     go : (a b d : Bool) → is_definition r.kind ≡ a → is_kind Reference r.kind ≡ b → is_defined earlier r.text ≡ d
-        → cond (a && d) (faulty DefinedAlready r) (cond (b && not d) (faulty ReferenceUnknown r) Resolved) ≡ Faulty f → Broken earlier r f.why × (f.at ≡ r.position)
+        → cond (a && d) (faulty DefinedAlready r) (cond (b && not d) (faulty ReferenceUnknown r) (Ok tt)) ≡ Err f → Broken earlier r f.why × (f.at ≡ r.position)
     go true b true p q z g = is g (twice p (defined_yes earlier r.text z))
     go true true false p q z g = is g (unknown q (defined_no earlier r.text z))
     go true false false p q z g = no g
@@ -111,28 +110,28 @@ row_broken earlier r f e = go (is_definition r.kind) (is_kind Reference r.kind) 
 
 -- ---- of many
 
-pub resolved_clean : (earlier rows : List Row) → fault_in earlier rows ≡ Resolved → Clean earlier rows
+pub resolved_clean : (earlier rows : List Row) → fault_in earlier rows ≡ Ok tt → Clean earlier rows
 unfolding fault_in Clean
 resolved_clean earlier [] e = tt
 resolved_clean earlier (r ∷ rows) e = go (fault_of earlier r) refl (resolved_clean (earlier ++ (r ∷ [])) rows) e
   where
-    go : (x : Resolution) → fault_of earlier r ≡ x → (fault_in (earlier ++ (r ∷ [])) rows ≡ Resolved → Clean (earlier ++ (r ∷ [])) rows) → or_else x (fault_in (earlier ++ (r ∷ [])) rows) ≡ Resolved → Clean earlier (r ∷ rows)
-    go Resolved p more f = let h = row_passes earlier r p in (h.new, h.known, more f)
-    go (Faulty g) p more f = let y : ◌≡◌ {A = ℕ} 0 1 = cc in absurd (omega arith)
+    go : (x : Resolution) → fault_of earlier r ≡ x → (fault_in (earlier ++ (r ∷ [])) rows ≡ Ok tt → Clean (earlier ++ (r ∷ [])) rows) → or_else x (fault_in (earlier ++ (r ∷ [])) rows) ≡ Ok tt → Clean earlier (r ∷ rows)
+    go (Ok _) p more f = let h = row_passes earlier r p in (h.new, h.known, more f)
+    go (Err g) p more f = let y : ◌≡◌ {A = ℕ} 0 1 = cc in absurd (omega arith)
 
-pub clean_resolved : (earlier rows : List Row) → Clean earlier rows → fault_in earlier rows ≡ Resolved
+pub clean_resolved : (earlier rows : List Row) → Clean earlier rows → fault_in earlier rows ≡ Ok tt
 unfolding fault_in Clean
 clean_resolved earlier [] c = refl
 clean_resolved earlier (r ∷ rows) c = rw (passes_row earlier r (record { new = c.0; known = c.1 })) (clean_resolved (earlier ++ (r ∷ [])) rows c.2)
 
-pub faulty_first : (earlier rows : List Row) (f : Fault) → fault_in earlier rows ≡ Faulty f → FirstBroken earlier rows f
+pub faulty_first : (earlier rows : List Row) (f : Fault) → fault_in earlier rows ≡ Err f → FirstBroken earlier rows f
 unfolding fault_in Clean
 faulty_first earlier [] f e = let y : ◌≡◌ {A = ℕ} 0 1 = cc in absurd (omega arith)
 faulty_first earlier (r ∷ rows) f e = go (fault_of earlier r) refl (faulty_first (earlier ++ (r ∷ [])) rows f) e
   where
-    go : (x : Resolution) → fault_of earlier r ≡ x → (fault_in (earlier ++ (r ∷ [])) rows ≡ Faulty f → FirstBroken (earlier ++ (r ∷ [])) rows f) → or_else x (fault_in (earlier ++ (r ∷ [])) rows) ≡ Faulty f
+    go : (x : Resolution) → fault_of earlier r ≡ x → (fault_in (earlier ++ (r ∷ [])) rows ≡ Err f → FirstBroken (earlier ++ (r ∷ [])) rows f) → or_else x (fault_in (earlier ++ (r ∷ [])) rows) ≡ Err f
         → FirstBroken earlier (r ∷ rows) f
-    go Resolved p more q =
+    go (Ok _) p more q =
         let h = row_passes earlier r p in
         let z = more q in
         record {
@@ -144,32 +143,32 @@ faulty_first earlier (r ∷ rows) f e = go (fault_of earlier r) refl (faulty_fir
           broken = rw (← append_assoc earlier (r ∷ []) z.before) z.broken;
           position = z.position;
         }
-    go (Faulty g) p more q =
+    go (Err g) p more q =
         let w = row_broken earlier r f (p ∙ q) in
         record { before = []; row = r; rest = rows; is = refl; clean = tt; broken = rw (append-nil earlier) w.0; position = w.1 }
 
 -- ---- 47
 
-pub resolved_fits : (all rows : List Row) → misfit_in all rows ≡ Resolved → EachFits all rows
+pub resolved_fits : (all rows : List Row) → misfit_in all rows ≡ Ok tt → EachFits all rows
 unfolding misfit_in EachFits
 resolved_fits all [] e = tt
 resolved_fits all (r ∷ rest) e = go (default_fits all r rest) refl (resolved_fits all rest) e
   where
-    go : (b : Bool) → default_fits all r rest ≡ b → (misfit_in all rest ≡ Resolved → EachFits all rest) → cond b (misfit_in all rest) (misfit r) ≡ Resolved → EachFits all (r ∷ rest)
+    go : (b : Bool) → default_fits all r rest ≡ b → (misfit_in all rest ≡ Ok tt → EachFits all rest) → cond b (misfit_in all rest) (misfit r) ≡ Ok tt → EachFits all (r ∷ rest)
     go true p more f = (p, more f)
     go false p more f = let y : ◌≡◌ {A = ℕ} 0 1 = cc in absurd (omega arith)
 
-pub fits_resolved : (all rows : List Row) → EachFits all rows → misfit_in all rows ≡ Resolved
+pub fits_resolved : (all rows : List Row) → EachFits all rows → misfit_in all rows ≡ Ok tt
 unfolding misfit_in EachFits
 fits_resolved all [] c = refl
 fits_resolved all (r ∷ rest) c = rw c.0 (fits_resolved all rest c.1)
 
-pub misfit_first : (all rows : List Row) (f : Fault) → misfit_in all rows ≡ Faulty f → FirstMisfit all rows f
+pub misfit_first : (all rows : List Row) (f : Fault) → misfit_in all rows ≡ Err f → FirstMisfit all rows f
 unfolding misfit_in
 misfit_first all [] f e = let y : ◌≡◌ {A = ℕ} 0 1 = cc in absurd (omega arith)
 misfit_first all (r ∷ rest) f e = go (default_fits all r rest) refl (misfit_first all rest f) e
   where
-    go : (b : Bool) → default_fits all r rest ≡ b → (misfit_in all rest ≡ Faulty f → FirstMisfit all rest f) → cond b (misfit_in all rest) (misfit r) ≡ Faulty f → FirstMisfit all (r ∷ rest) f
+    go : (b : Bool) → default_fits all r rest ≡ b → (misfit_in all rest ≡ Err f → FirstMisfit all rest f) → cond b (misfit_in all rest) (misfit r) ≡ Err f → FirstMisfit all (r ∷ rest) f
     go true p more g = further p (more g)
     go false p more g = let y : record { why = DefaultDoesNotFit; at = r.size } ≡ f = cc in subst (FirstMisfit all (r ∷ rest)) y (this p)
 
@@ -198,6 +197,6 @@ append_barred ds rows r e = go (ltb row_limit (length (flat ds) + length rows)) 
         → (f : Fault) × Barred ds rows f × (r ≡ placed f (length ds))
     go true b x y p q z w f = (record { why = TooManyRows; at = 0 }, many_rows (ltb-true _ _ p), sym (refused_is f))
     go false true x y p q z w f = (record { why = TooManyStringBytes; at = 0 }, many_bytes (ltb-false _ _ p) (ltb-true _ _ q), sym (refused_is f))
-    go false false Resolved Resolved p q z w f = not_both f
-    go false false Resolved (Faulty g) p q z w f = (g, bad_default (ltb-false _ _ p) (ltb-false _ _ q) (resolved_clean (flat ds) rows z) (misfit_first (flat ds ++ rows) rows g w), sym (refused_is f))
-    go false false (Faulty g) y p q z w f = (g, bad_name (ltb-false _ _ p) (ltb-false _ _ q) (faulty_first (flat ds) rows g z), sym (refused_is f))
+    go false false (Ok _) (Ok _) p q z w f = not_both f
+    go false false (Ok _) (Err g) p q z w f = (g, bad_default (ltb-false _ _ p) (ltb-false _ _ q) (resolved_clean (flat ds) rows z) (misfit_first (flat ds ++ rows) rows g w), sym (refused_is f))
+    go false false (Err g) y p q z w f = (g, bad_name (ltb-false _ _ p) (ltb-false _ _ q) (faulty_first (flat ds) rows g z), sym (refused_is f))

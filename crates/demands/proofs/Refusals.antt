@@ -9,6 +9,7 @@ use native.Mathlib.Omega.{arith}
 use lib.Dec.{eqb, ltb}
 use lib.ListN.{length, take, drop}
 use borrow.Author.Tests.{lt-ltb, le-ltb, ltb-true, ltb-false, eq-eqb, eqb-true}
+use Rattle.std.specs.Prelude.{Ok, Err}
 use Rattle.answer.specs.declared.refusal.Why.{Why}
 use Rattle.answer.specs.declared.refusal.Why.TheVariants.{NotAName, NotWellFormed, NoSuchPlace, TooManyDeclarations, TooManyRows, TooManyStringBytes, DefinedAlready, ReferenceUnknown}
 use Rattle.answer.specs.declared.refusal.Refusal.{Refusal}
@@ -23,9 +24,7 @@ use Rattle.formed.specs.WellFormed.{well_formed}
 use Rattle.formed.proofs.Laws.{exact}
 use Rattle.row.specs.declared.kind.Kind.TheVariants.{Reference}
 use Rattle.resolve.specs.Kinds.{is_kind, is_definition}
-use Rattle.resolve.specs.Resolve.{is_defined, faulty, fault_of, or_else, fault_in}
-use Rattle.resolve.specs.declared.Resolution.{Resolution}
-use Rattle.resolve.specs.declared.Resolution.TheVariants.{Resolved, Faulty}
+use Rattle.resolve.specs.Resolve.{Resolution, is_defined, faulty, fault_of, or_else, fault_in}
 use Rattle.fits.specs.Misfits.{default_fits, misfit, misfit_in}
 use Rattle.schema.specs.Out.{Out, read}
 use Rattle.schema.specs.Out as out
@@ -63,21 +62,21 @@ is_later w = not (eqb (number_of w) 7 || is_asked (number_of w))
 
 -- 25 and 26
 abbrev Other : Resolution → Type 0
-Other Resolved = Unit {0}
-Other (Faulty f) = is_later f.why ≡ true
+Other (Ok _) = Unit {0}
+Other (Err f) = is_later f.why ≡ true
 
 row_other : (earlier : List Row) (r : Row) → Other (fault_of earlier r)
 unfolding fault_of
 row_other earlier r = go (is_definition r.kind && is_defined earlier r.text) (is_kind Reference r.kind && not (is_defined earlier r.text))
   where
-    go : (x y : Bool) → Other (cond x (faulty DefinedAlready r) (cond y (faulty ReferenceUnknown r) Resolved))
+    go : (x y : Bool) → Other (cond x (faulty DefinedAlready r) (cond y (faulty ReferenceUnknown r) (Ok tt)))
     go true y = refl
     go false true = refl
     go false false = tt
 
 else_other : (x y : Resolution) → Other x → Other y → Other (or_else x y)
-else_other Resolved y f g = g
-else_other (Faulty f) y g h = g
+else_other (Ok _) y f g = g
+else_other (Err f) y g h = g
 
 rows_other : (earlier rows : List Row) → Other (fault_in earlier rows)
 unfolding fault_in
@@ -116,8 +115,8 @@ module _ (text : List ℕ) (place : ℕ) where
   cond_fair false x y f g = g
 
   resolved_fair : (s : Resolution) (k : ℕ) (x : Result) → Other s → Fair x → Fair (on_resolved s k x)
-  resolved_fair Resolved k x o g = g
-  resolved_fair (Faulty f) k x o g = other f.why k f.at o
+  resolved_fair (Ok _) k x o g = g
+  resolved_fair (Err f) k x o g = other f.why k f.at o
 
   next_fair : (x : Result) (step : List (List Row) → Result) → Fair x → ((ds : List (List Row)) → Fair (step ds)) → Fair (next x step)
   next_fair (becomes ds) step f g = g ds

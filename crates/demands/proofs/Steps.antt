@@ -10,6 +10,7 @@ use lib.Dec.{ltb}
 use lib.ListN.{length, take, drop, length-append, length-take, length-drop, drop_of_length-le}
 use lib.Seq.{take_all}
 use borrow.Author.Tests.{lt-ltb, le-ltb, ltb-false}
+use Rattle.std.specs.Prelude.{Ok, Err}
 use Rattle.answer.specs.declared.refusal.Why.TheVariants.{TooManyDeclarations}
 use Rattle.answer.specs.declared.refusal.Refusal.{Refusal}
 use Rattle.ground.proofs.Laws.{and_true}
@@ -21,11 +22,9 @@ use Rattle.row.specs.Layout.{declaration_limit, row_limit, string_limit}
 use Rattle.row.specs.Rows.{Row, texts}
 use Rattle.row.specs.Sets.{flat}
 use Rattle.resolve.specs.Rules.{is_declaration}
-use Rattle.resolve.specs.Resolve.{fault_in}
+use Rattle.resolve.specs.Resolve.{Resolution, fault_in}
 use Rattle.fits.specs.Misfits.{misfit_in}
 use Rattle.formed.specs.WellFormed.{Good}
-use Rattle.resolve.specs.declared.Resolution.{Resolution}
-use Rattle.resolve.specs.declared.Resolution.TheVariants.{Resolved, Faulty}
 use Rattle.formed.proofs.Laws.{cut_good, more_good}
 use Rattle.schema.specs.Out.{Out, refused, read}
 use Rattle.schema.specs.Schema.{rows_of, on_scan, declared}
@@ -54,9 +53,9 @@ pub must_not : (b : Bool) (r : Refusal) (x : Result) (d : List (List Row)) → c
 must_not true r x d e = not_both (sym e)
 must_not false r x d e = (refl, e)
 
-pub resolved_done : (f : Resolution) (place : ℕ) (x : Result) (d : List (List Row)) → on_resolved f place x ≡ becomes d → (f ≡ Resolved) × (x ≡ becomes d)
-resolved_done Resolved place x d e = (refl, e)
-resolved_done (Faulty f) place x d e = not_both (sym e)
+pub resolved_done : (f : Resolution) (place : ℕ) (x : Result) (d : List (List Row)) → on_resolved f place x ≡ becomes d → (f ≡ Ok tt) × (x ≡ becomes d)
+resolved_done (Ok _) place x d e = (refl, e)
+resolved_done (Err f) place x d e = not_both (sym e)
 
 pub rows_done : (o : Out) (place : ℕ) (step : List Row → Result) (d : List (List Row)) → on_rows o place step ≡ becomes d → (rows : List Row) × (o ≡ read rows) × (step rows ≡ becomes d)
 rows_done (refused f) place step d e = not_both (sym e)
@@ -79,8 +78,8 @@ next_next (refuses r) f g = refl
 pub record Appended (ds : List (List Row)) (rows : List Row) (d : List (List Row)) : Type 0 where
   pub fit : length (flat ds) + length rows ≤ row_limit
   pub room : length (texts (flat ds)) + length (texts rows) ≤ string_limit
-  pub resolved : fault_in (flat ds) rows ≡ Resolved
-  pub fitting : misfit_in (flat ds ++ rows) rows ≡ Resolved
+  pub resolved : fault_in (flat ds) rows ≡ Ok tt
+  pub fitting : misfit_in (flat ds ++ rows) rows ≡ Ok tt
   pub is : d ≡ ds ++ (rows ∷ [])
 
 pub append_done : (ds : List (List Row)) (rows : List Row) (d : List (List Row)) → append ds rows ≡ becomes d → Appended ds rows d

@@ -1,12 +1,12 @@
 -- What the demands speak of: calls one after the other, memory that calls built from texts, a text that may join a set, a row's place.
 -- Assumes nothing.
-use Rattle.std.specs.Prelude.{ℕ, suc, ◌+◌, ◌*◌, ◌<◌, ◌≤◌, ◌≡◌, Bool, true, false, cond, List, [], ◌∷◌, ◌++◌, eqb, length, take, drop, Result}
+use Rattle.std.specs.Prelude.{ℕ, suc, ◌+◌, ◌*◌, ◌<◌, ◌≤◌, ◌≡◌, Bool, true, false, cond, List, [], ◌∷◌, ◌++◌, eqb, length, take, drop}
 use Rattle.answer.specs.Places.{placed}
 use Rattle.answer.specs.declared.refusal.Why.{Why}
 use Rattle.answer.specs.declared.refusal.Why.TheVariants.{TooManyRows, TooManyStringBytes, DefinedAlready, ReferenceUnknown, DefaultDoesNotFit}
 use Rattle.answer.specs.declared.refusal.Fault.{Fault}
 use Rattle.answer.specs.declared.numbers.Numbers.{Numbers}
-use Rattle.answer.specs.Answers.{accepted, of_refusal, numbers_of}
+use Rattle.answer.specs.Answers.{accepted, of_refusal, numbers_of, Answer}
 use Rattle.ground.specs.Bytes.{part}
 use Rattle.row.specs.Layout.{declaration_limit, row_limit, string_limit, row_size, rows_start, strings_start, layout_length}
 use Rattle.row.specs.Rows.{Row, texts}
@@ -20,7 +20,6 @@ use Rattle.set.specs.Lists.{Result}
 use Rattle.set.specs.Calls.{answer_of, memory_of, opened, put}
 use Rattle.set.specs.Naming.{has_full_name}
 use Rattle.answer.specs.declared.counts.Counts.{Counts}
-use Rattle.answer.specs.declared.refusal.Refusal.{Refusal}
 
 -- ---- outcomes
 
@@ -34,7 +33,7 @@ unfoldable pub outcome : List ℕ → Result → Outcome
 outcome m r = record { answer = answer_of r; memory = memory_of m r }
 
 -- the contract of open and put: what it allows of answer and memory
-abbrev pub Allowed : List ℕ → Result → Result Counts Refusal × List ℕ → Type 0
+abbrev pub Allowed : List ℕ → Result → Answer Counts × List ℕ → Type 0
 Allowed m r o = (numbers_of o.0 ≡ answer_of r) × (o.1 ≡ memory_of m r)
 
 -- accepted: the number is 0

@@ -5,6 +5,7 @@ use mathlib.Core.Bool.{Bool, true, false, ◌||◌}
 use mathlib.Core.List.{List, [], ◌∷◌}
 use Prim.Native.Nat.{ℕ, suc, ◌+◌, ◌-◌, ◌<◌, ◌≤◌}
 use native.Mathlib.Omega.{arith}
+use Rattle.std.specs.Prelude.{Ok, Err}
 use Rattle.answer.specs.declared.refusal.Why.TheVariants.{DefaultDoesNotFit}
 use Rattle.ground.proofs.Laws.{never}
 use Rattle.json_scan.specs.Json.{deepest}
@@ -12,8 +13,7 @@ use Rattle.row.specs.Rows.{Row}
 use Rattle.row.specs.Sets.{rows_from}
 use Rattle.row.specs.Memory.{entry_at, row_at}
 use Rattle.resolve.specs.Rules.{some}
-use Rattle.resolve.specs.declared.Resolution.{Resolution}
-use Rattle.resolve.specs.declared.Resolution.TheVariants.{Resolved, Faulty}
+use Rattle.resolve.specs.Resolve.{Resolution}
 use Rattle.resolve.proofs.MemoryLaws.{rows_next, rows_end}
 use Rattle.fits.specs.Types.{type_of, has_default}
 use Rattle.fits.specs.Fits.{fits}
@@ -54,14 +54,14 @@ module _ (m : List ℕ) (n i : ℕ) where
       defaults_on g = sym (ap (some has_default) (rows_next m i n l) ∙ rw (← f, g)) ∙ inv
 
   module _ (rows : List Row) {x : Resolution} (inv : misfit_in rows (type_at m n i) ≡ x) where
-    pub misfit_end : n ≤ i → Resolved ≡ x
+    pub misfit_end : n ≤ i → Ok tt ≡ x
     unfolding misfit_in
     misfit_end l = sym (ap (misfit_in rows) (rows_end m i n l)) ∙ inv
 
     module _ (l : i < n) {b : Bool} (f : b ≡ default_fits rows (row_at m i) (type_at m n (i + 1))) where
-      pub misfit_here : b ≡ false → {k : ℕ} → k ≡ (entry_at m i).size → Faulty (record { why = DefaultDoesNotFit; at = k }) ≡ x
+      pub misfit_here : b ≡ false → {k : ℕ} → k ≡ (entry_at m i).size → Err (record { why = DefaultDoesNotFit; at = k }) ≡ x
       unfolding misfit_in
-      misfit_here g e = ap (λ (k : ℕ). Faulty (record { why = DefaultDoesNotFit; at = k })) e ∙ sym (ap (misfit_in rows) (rows_next m i n l) ∙ rw (← f, g)) ∙ inv
+      misfit_here g e = ap (λ (k : ℕ). Err (record { why = DefaultDoesNotFit; at = k })) e ∙ sym (ap (misfit_in rows) (rows_next m i n l) ∙ rw (← f, g)) ∙ inv
 
       pub misfit_on : b ≡ true → misfit_in rows (type_at m n (i + 1)) ≡ x
       unfolding misfit_in
@@ -69,11 +69,11 @@ module _ (m : List ℕ) (n i : ℕ) where
 
 -- ---- where no row has a default, all fit
 
-pub none_fit : (rows ds : List Row) → some has_default ds ≡ false → misfit_in rows ds ≡ Resolved
+pub none_fit : (rows ds : List Row) → some has_default ds ≡ false → misfit_in rows ds ≡ Ok tt
 unfolding some misfit_in
 none_fit rows [] h = refl
 none_fit rows (r ∷ ds) h = go (has_default r) refl h (none_fit rows ds)
   where
-    go : (b : Bool) → has_default r ≡ b → (b || some has_default ds) ≡ false → (some has_default ds ≡ false → misfit_in rows ds ≡ Resolved) → misfit_in rows (r ∷ ds) ≡ Resolved
+    go : (b : Bool) → has_default r ≡ b → (b || some has_default ds) ≡ false → (some has_default ds ≡ false → misfit_in rows ds ≡ Ok tt) → misfit_in rows (r ∷ ds) ≡ Ok tt
     go true e h k = never (sym h)
     go false e h k = rw (← (without_default rows ds r e)) (k h)

@@ -1,11 +1,10 @@
 -- 47: the first default of a declaration that does not fit its field's type.
 -- Assumes nothing.
-use Rattle.std.specs.Prelude.{suc, Bool, not, cond, ◌||◌, List, [], ◌∷◌}
+use Rattle.std.specs.Prelude.{suc, Bool, not, cond, ◌||◌, List, [], ◌∷◌, Ok, Err}
 use Rattle.answer.specs.declared.refusal.Why.TheVariants.{DefaultDoesNotFit}
 use Rattle.json_scan.specs.Json.{deepest}
 use Rattle.row.specs.Rows.{Row}
-use Rattle.resolve.specs.declared.Resolution.{Resolution}
-use Rattle.resolve.specs.declared.Resolution.TheVariants.{Resolved, Faulty}
+use Rattle.resolve.specs.Resolve.{Resolution}
 use Rattle.fits.specs.Types.{type_of, has_default}
 use Rattle.fits.specs.Fits.{fits}
 
@@ -16,9 +15,9 @@ default_fits rows r rest = not (has_default r) || fits rows r.default (suc deepe
 
 -- 47, at the default's position
 abbrev pub misfit : Row → Resolution
-misfit r = Faulty (record { why = DefaultDoesNotFit; at = r.size })
+misfit r = Err (record { why = DefaultDoesNotFit; at = r.size })
 
 -- the first one in preorder of a declaration, among all rows up to its end
 unfoldable pub misfit_in : List Row → List Row → Resolution
-misfit_in rows [] = Resolved
+misfit_in rows [] = Ok tt
 misfit_in rows (r ∷ rest) = cond (default_fits rows r rest) (misfit_in rows rest) (misfit r)

@@ -11,7 +11,6 @@ ghost use Rattle.fits.specs.Steps.{type_at, Found};
 use crate::fits;
 use crate::rows::{has_default, type_row};
 use answer::{Counts, Fault, Why};
-use resolve::Resolution;
 use row::read::{default_of, size_at};
 
 // Has one of the n rows from `start` on a default?
@@ -45,7 +44,7 @@ fn default_fits(mem: &[u8], n: usize, i: usize, found: &mut [u16]) -> bool
 
 // 47 of the n rows from `start` on, the last ones that are looked at: the first default that does not fit, by its position. A
 // definition that one default leads to is found once for all. The tables are large: ask first whether there is a default.
-pub fn first_misfit(mem: &[u8], start: usize, n: usize) -> Resolution
+pub fn first_misfit(mem: &[u8], start: usize, n: usize) -> Result<(), Fault>
     requires { (length mem.now ≡ layout_length) × (start + n ≤ row_limit) }
     ensures { result ≡ misfit_in (rows_from mem.now (start + n) 0) (rows_from mem.now n start) }
 {
@@ -54,12 +53,12 @@ pub fn first_misfit(mem: &[u8], start: usize, n: usize) -> Resolution
     let mut i = start;
     while i < end {
         if !default_fits(mem, end, i, &mut found) {
-            return Resolution::Faulty(Fault {
+            return Err(Fault {
                 why: Why::DefaultDoesNotFit,
                 at: size_at(mem, i) as usize,
             });
         }
         i += 1;
     }
-    Resolution::Resolved
+    Ok(())
 }

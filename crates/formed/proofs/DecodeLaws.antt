@@ -17,14 +17,11 @@ use Rattle.row.specs.Sets.{flat, sum, encode, words_of, count_in, sizes_in, rows
 use Rattle.row.specs.Memory.{size_at, rows_before}
 use Rattle.row.proofs.Laws.{length_encode, count_encode, before_encode, encoding_true}
 use Rattle.resolve.specs.Rules.{some, is_declaration}
-use Rattle.resolve.specs.Resolve.{fault_in, is_resolved, resolves}
+use Rattle.resolve.specs.Resolve.{Resolution, fault_in, is_resolved, resolves}
 use Rattle.formed.specs.WellFormed.{defaults_fit, keeps_rules, well_formed}
 use Rattle.fits.specs.Types.{has_default}
 use Rattle.fits.specs.Misfits.{misfit_in}
 use Rattle.fits.proofs.MisfitLaws.{none_fit}
-use Rattle.resolve.specs.declared.Resolution.{Resolution}
-use Rattle.resolve.specs.declared.Resolution.TheVariants.{Resolved, Faulty}
-use Rattle.answer.specs.declared.refusal.Fault.{Fault}
 use Rattle.resolve.proofs.ResolveLaws.{some_append}
 use Rattle.resolve.proofs.MemoryLaws.{rows_none, rows_add, length_rows}
 
@@ -121,10 +118,10 @@ module _ (m : List ℕ) (n p s : ℕ) (l : p < n) (fit : s + rows_left m p (n - 
         let a : rows_from m s 0 ++ rows_from m t s ≡ rows_from m (s + t) 0 = sym (rows_add m s t 0 ∙ rw zero-add) in
         inv ∙ rw (first_left m n p s l fit t e, a, f)
 
-    pub fitting_bad : {y : Fault} → r ≡ Faulty y → false ≡ x
+    pub fitting_bad : is_resolved r ≡ false → false ≡ x
     fitting_bad h = sym (first_fits ∙ rw h)
 
-    pub fitting_more : r ≡ Resolved → x ≡ defaults_fit (rows_from m (s + t) 0) (left m (p + 1) (n - (p + 1)) (s + t))
+    pub fitting_more : is_resolved r ≡ true → x ≡ defaults_fit (rows_from m (s + t) 0) (left m (p + 1) (n - (p + 1)) (s + t))
     fitting_more h = first_fits ∙ rw h
 
 pub fitting_end : (m : List ℕ) (n p s : ℕ) (x : Bool) → n ≤ p → x ≡ defaults_fit (rows_from m s 0) (left m p (n - p) s) → true ≡ x

@@ -6,6 +6,7 @@ use mathlib.Core.List.{List, [], ◌∷◌, ◌++◌, append-nil, append_assoc}
 use Prim.Native.Nat.{ℕ, ◌+◌, ◌<◌, ◌≤◌}
 use native.Mathlib.Omega.{arith}
 use lib.ListN.{length, take, drop, length-append, take-append-drop}
+use Rattle.std.specs.Prelude.{Ok, Err}
 use Rattle.ground.proofs.Laws.{and_true}
 use Rattle.name.specs.Name.{every}
 use Rattle.row.specs.Layout.{declaration_limit, row_limit, string_limit}
@@ -15,10 +16,8 @@ use Rattle.row.proofs.RowLaws.{fit_both, texts_append}
 use Rattle.row.proofs.SetLaws.{flat_append}
 use Rattle.row.proofs.Laws.{decode_encode, encoding_true, true_encoding}
 use Rattle.resolve.specs.Rules.{is_declaration}
-use Rattle.resolve.specs.Resolve.{fault_in, or_else, is_resolved, resolves}
+use Rattle.resolve.specs.Resolve.{Resolution, fault_in, or_else, is_resolved, resolves}
 use Rattle.formed.specs.WellFormed.{defaults_fit, Good, keeps_rules, well_formed}
-use Rattle.resolve.specs.declared.Resolution.{Resolution}
-use Rattle.resolve.specs.declared.Resolution.TheVariants.{Resolved, Faulty}
 use Rattle.resolve.proofs.ResolveLaws.{fault_append}
 use Rattle.resolve.proofs.Laws.{declaration_fits, every_append}
 use Rattle.fits.specs.Misfits.{misfit_in}
@@ -58,13 +57,13 @@ pub none_good : Good []
 unfolding every resolves fault_in flat texts defaults_fit
 none_good = record { few = omega arith; rows = omega arith; strings = omega arith; declarations = refl; resolved = refl; fitting = refl }
 
-pub resolved_true : (r : Resolution) → is_resolved r ≡ true → r ≡ Resolved
-resolved_true Resolved e = refl
-resolved_true (Faulty f) e = cc
+pub resolved_true : (r : Resolution) → is_resolved r ≡ true → r ≡ Ok tt
+resolved_true (Ok _) e = refl
+resolved_true (Err f) e = cc
 
 or_front : (a b : Resolution) → is_resolved (or_else a b) ≡ true → is_resolved a ≡ true
-or_front Resolved b e = refl
-or_front (Faulty f) b e = e
+or_front (Ok _) b e = refl
+or_front (Err f) b e = e
 
 -- the defaults of declarations in two parts: those of the second stand behind all rows of the first
 pub fitting_append : (earlier : List Row) (a b : List (List Row)) → defaults_fit earlier (a ++ b) ≡ (defaults_fit earlier a && defaults_fit (earlier ++ flat a) b)
@@ -74,7 +73,7 @@ fitting_append earlier (d ∷ a) b =
     rw (fitting_append (earlier ++ d) a b, append_assoc earlier d (flat a)) (sym (and_assoc (is_resolved (misfit_in (earlier ++ d) d)) (defaults_fit (earlier ++ d) a) (defaults_fit (earlier ++ (d ++ flat a)) b)))
 
 -- of one declaration more
-pub fitting_more : (ds : List (List Row)) (d : List Row) → defaults_fit [] ds ≡ true → misfit_in (flat ds ++ d) d ≡ Resolved → defaults_fit [] (ds ++ (d ∷ [])) ≡ true
+pub fitting_more : (ds : List (List Row)) (d : List Row) → defaults_fit [] ds ≡ true → misfit_in (flat ds ++ d) d ≡ Ok tt → defaults_fit [] (ds ++ (d ∷ [])) ≡ true
 unfolding defaults_fit
 fitting_more ds d e f = fitting_append [] ds (d ∷ []) ∙ rw (e, f)
 
@@ -122,10 +121,10 @@ module _ (ds : List (List Row)) (d : List Row) (g : Good ds) (few : length ds < 
       }
 
   -- and the set is good: what 25 and 26, and 47 ask
-  pub more_good : fault_in (flat ds) d ≡ Resolved → misfit_in (flat ds ++ d) d ≡ Resolved → Good (ds ++ (d ∷ []))
+  pub more_good : fault_in (flat ds) d ≡ Ok tt → misfit_in (flat ds ++ d) d ≡ Ok tt → Good (ds ++ (d ∷ []))
   unfolding flat resolves
   more_good f h =
-      let r : fault_in [] (flat ds) ≡ Resolved = resolved_true (fault_in [] (flat ds)) g.resolved in
+      let r : fault_in [] (flat ds) ≡ Ok tt = resolved_true (fault_in [] (flat ds)) g.resolved in
       record {
         few = more_within.declarations;
         rows = more_within.rows;

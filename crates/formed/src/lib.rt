@@ -12,7 +12,7 @@ ghost use Rattle.formed.specs.WellFormed.{defaults_fit, well_formed};
 
 use chains::SLOTS;
 use fits::{first_misfit, has_defaults};
-use resolve::{Resolution, first_fault, is_declaration_by};
+use resolve::{first_fault, is_declaration_by};
 use row::read::{declarations, rows_before, rows_of};
 use row::tidy::is_encoding;
 
@@ -24,14 +24,12 @@ fn are_declarations(mem: &[u8], n: usize) -> bool
     let mut first: [u16; SLOTS] = [0; SLOTS];
     let mut next: [u16; SLOTS] = [0; SLOTS];
     let mut start = 0;
-    let mut place = 0;
-    while place < n {
+    for place in 0..n {
         let rows = rows_of(mem, place);
         if !is_declaration_by(mem, start, rows, &mut first, &mut next) {
             return false;
         }
         start += rows;
-        place += 1;
     }
     true
 }
@@ -41,11 +39,7 @@ fn is_resolved(mem: &[u8], n: usize) -> bool
     requires { (length mem.now ≡ layout_length) × (n ≤ row_limit) }
     ensures { result ≡ is_resolved (fault_in [] (rows_from mem.now n 0)) }
 {
-    let r = first_fault(mem, 0, mem, 0, n);
-    match r {
-        Resolution::Resolved => true,
-        Resolution::Faulty(_) => false,
-    }
+    first_fault(mem, 0, mem, 0, n).is_ok()
 }
 
 // Is 47 nowhere in the n places? Each is asked among all rows up to its end.
@@ -54,16 +48,12 @@ fn places_fit(mem: &[u8], n: usize) -> bool
     ensures { result ≡ defaults_fit [] (decode mem.now) }
 {
     let mut start = 0;
-    let mut place = 0;
-    while place < n {
+    for place in 0..n {
         let rows = rows_of(mem, place);
-        let r = first_misfit(mem, start, rows);
-        match r {
-            Resolution::Resolved => {}
-            Resolution::Faulty(_) => return false,
+        if first_misfit(mem, start, rows).is_err() {
+            return false;
         }
         start += rows;
-        place += 1;
     }
     true
 }
@@ -73,10 +63,7 @@ fn defaults_fit(mem: &[u8], n: usize, rows: usize) -> bool
     requires { (length mem.now ≡ layout_length) × (n ≡ count_in mem.now) × (n ≤ declaration_limit) × (rows_before mem.now n ≤ row_limit) × (rows ≡ rows_before mem.now n) }
     ensures { result ≡ defaults_fit [] (decode mem.now) }
 {
-    if has_defaults(mem, 0, rows) {
-        return places_fit(mem, n);
-    }
-    true
+    !has_defaults(mem, 0, rows) || places_fit(mem, n)
 }
 
 // For any bytes: are they the encoding of a set that keeps the rules?
@@ -91,8 +78,5 @@ pub fn well_formed(mem: &[u8]) -> bool
         return false;
     }
     let rows = rows_before(mem, n);
-    if !is_resolved(mem, rows) {
-        return false;
-    }
-    defaults_fit(mem, n, rows)
+    is_resolved(mem, rows) && defaults_fit(mem, n, rows)
 }

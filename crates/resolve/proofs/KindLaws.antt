@@ -39,14 +39,6 @@ pub kind_is : (j k : Kind) → is_kind j k ≡ true → k ≡ j
 unfolding is_kind
 kind_is j k e = one_kind k j (eqb-true (kind_number k) (kind_number j) e)
 
-pub definition_reference : (k : Kind) → is_definition k ≡ true → is_kind Reference k ≡ false
-unfolding is_definition is_kind
-definition_reference k e = go (kind_number k) _ refl e
-  where
-    go : (n : ℕ) (b : Bool) → eqb n 16 ≡ b → (eqb n 32 || eqb n 33 || eqb n 34) ≡ true → b ≡ false
-    go n false p q = refl
-    go n true p q = sym (rw (eqb-true n 16 p) at q)
-
 pub kind_not : (kind k : Kind) → (kind_number k ≡ kind_number kind → ⊥) → is_kind kind k ≡ false
 unfolding is_kind
 kind_not kind k h = ne_eqb (kind_number k) (kind_number kind) h

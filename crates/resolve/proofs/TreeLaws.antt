@@ -1,25 +1,24 @@
 -- The turns of the walks over the rows under a row, over plain values.
 -- Assumes nothing.
 use mathlib.Core.Path.{◌≡◌, refl, sym, ap, ◌∙◌}
-use mathlib.Core.Bool.{Bool, true, false, cond, ◌||◌, and-true, and-false}
+use mathlib.Core.Bool.{Bool, true, false, cond, not, ◌&&◌, ◌||◌, and-false}
 use mathlib.Core.List.{List, [], ◌∷◌}
 use Prim.Native.Nat.{ℕ, zero, suc, ◌+◌, ◌-◌, ◌<◌, ◌≤◌}
+use native.Mathlib.Decide.{dec_le}
 use native.Mathlib.Nat.{add-zero}
 use native.Mathlib.Numerals.{add-one}
 use native.Mathlib.Omega.{arith}
-use lib.Dec.{eqb, ltb, eqb-suc-zero}
+use lib.Dec.{eqb, eqb-suc-zero}
 use lib.ListN.{length}
 use borrow.Author.Tests.{lt-ltb, le-ltb, le-leb, lt-leb, eq-eqb, ne_eqb}
-use Rattle.name.specs.Name.{every, is_empty}
-use Rattle.name.proofs.Laws.{empty_none, empty_some}
-use Rattle.json_scan.specs.Json.{longest}
+use Rattle.name.specs.Name.{every}
 use Rattle.row.specs.Rows.{Row}
 use Rattle.row.specs.Sets.{rows_from}
-use Rattle.row.specs.Memory.{entry_at, text_at, default_at, row_at}
+use Rattle.row.specs.Memory.{entry_at, row_at}
 use Rattle.row.specs.declared.kind.Kind.{Kind}
-use Rattle.row.specs.declared.kind.Kind.TheVariants.{Union, Record, Enum, Fixed}
+use Rattle.row.specs.declared.kind.Kind.TheVariants.{Union, Record, Enum}
 use Rattle.resolve.specs.Kinds.{is_kind, is_schema, is_part_of, past, body_fits, parts_fit}
-use Rattle.resolve.specs.Rules.{good_text, good_default, good_strings, good_size, good_numbers, under, kinds_at, takes_name, same_symbol, same_member, clash, some, no_two, good_parts, no_clash, good_row, good_rows, climbs, is_declaration}
+use Rattle.resolve.specs.Rules.{under, kinds_at, takes_name, same_symbol, same_member, clash, some, no_two, good_parts, no_clash, good_row, good_rows, climbs, is_declaration}
 use Rattle.resolve.specs.Steps.{is_leading, may_end, left_fit, is_ruled}
 use Rattle.resolve.proofs.MemoryLaws.{rows_none, rows_cons, rows_next, rows_end}
 
@@ -146,13 +145,16 @@ module _ (m : List ℕ) (end d j : ℕ) (x : Bool) (inv : x ≡ climbs d (rows_f
   climb_end l = sym (inv ∙ rw (rows_end m j end l))
 
   module _ (l : j < end) (y : ℕ) (e : y ≡ (entry_at m j).depth) where
-    pub climb_top : y ≡ 0 → false ≡ x
+    climb_top : y ≡ 0 → false ≡ x
     unfolding climbs
     climb_top h = let z : (row_at m j).depth ≡ 0 = sym e ∙ h in sym (inv ∙ rw (rows_next m j end l, z))
 
-    pub climb_far : d + 1 < y → false ≡ x
+    climb_far : d + 1 < y → false ≡ x
     unfolding climbs
     climb_far h = sym (inv ∙ rw (rows_next m j end l, lt-leb (row_at m j).depth (d + 1) (rw e at h), and-false))
+
+    pub climb_bad : (y ≤ d + 1 → y ≡ 0) → false ≡ x
+    climb_bad h = elim (dec_le y (d + 1)) [ yes k ↦ climb_top (h k) | no k ↦ climb_far (omega arith) ]
 
     pub climb_more : (y ≡ 0 → ⊥) → y ≤ d + 1 → x ≡ climbs y (rows_from m (end - (j + 1)) (j + 1))
     unfolding climbs
@@ -173,89 +175,12 @@ module _ (m : List ℕ) (end j : ℕ) (x : Bool) (inv : x ≡ good_rows (rows_fr
   unfolding good_rows
   good_more l e = inv ∙ rw (rows_next m j end l, e)
 
--- a row's strings
-module _ (m : List ℕ) (i : ℕ) (d : List ℕ) (e : d ≡ default_at m i) where
-  pub bad_default : good_default (entry_at m i).kind d ≡ false → false ≡ good_strings (row_at m i)
-  unfolding good_strings
-  bad_default h = rw (← e, h, and-false)
-
-  pub fine_default : good_default (entry_at m i).kind d ≡ true → good_text (entry_at m i).kind (text_at m i) ≡ good_strings (row_at m i)
-  unfolding good_strings
-  fine_default h = rw (← e, h, and-true)
-
--- and its size: 0 on any row
-pub zero_size : (r : Row) → r.size ≡ 0 → true ≡ good_size r
-unfolding good_size
-zero_size r e = rw e (go (is_kind Fixed r.kind) (is_empty r.default))
-  where
-    go : (b none : Bool) → true ≡ cond b true (cond none true true)
-    go true none = refl
-    go false true = refl
-    go false false = refl
-
--- of a row that is no fixed
-module _ (m : List ℕ) (i : ℕ) (d : List ℕ) (e : d ≡ default_at m i) (k : is_kind Fixed (entry_at m i).kind ≡ false) where
-  pub no_size : length d ≡ 0 → ((entry_at m i).size ≡ 0 → ⊥) → false ≡ good_size (row_at m i)
-  unfolding good_size
-  no_size h z = rw (k, ← e, empty_none d h, ne_eqb (entry_at m i).size 0 z)
-
-  pub position_size : (length d ≡ 0 → ⊥) → ltb (entry_at m i).size longest ≡ good_size (row_at m i)
-  unfolding good_size
-  position_size h = rw (k, ← e, empty_some d h)
-
--- a row's tests, one after the other
-module _ (m : List ℕ) (i : ℕ) (rest : List Row) where
-  pub row_strings : good_strings (row_at m i) ≡ false → false ≡ good_row (row_at m i) rest
-  unfolding good_row
-  row_strings t = rw t
-
-  module _ (t : good_strings (row_at m i) ≡ true) where
-    pub row_numbers_lem : good_numbers (row_at m i) ≡ false → false ≡ good_row (row_at m i) rest
-    unfolding good_row
-    row_numbers_lem u = rw (t, u)
-
-    module _ (u : good_numbers (row_at m i) ≡ true) where
-      pub row_parts : good_parts (row_at m i) rest ≡ false → false ≡ good_row (row_at m i) rest
-      unfolding good_row
-      row_parts v = rw (t, u, v)
-
-      pub row_last : good_parts (row_at m i) rest ≡ true → no_clash (row_at m i) rest ≡ good_row (row_at m i) rest
-      unfolding good_row
-      row_last v = rw (t, u, v)
-
 -- a declaration's tests, one after the other
-pub declaration_none : (m : List ℕ) (s n : ℕ) → n ≡ 0 → false ≡ is_declaration (rows_from m n s)
+pub declaration_is : (m : List ℕ) (s n y : ℕ) (k : Kind) → y ≡ (entry_at m s).depth → k ≡ (entry_at m s).kind
+    → not (eqb n 0) && eqb y 0 && is_schema k && climbs 0 (rows_from m (s + n - (s + 1)) (s + 1)) && good_rows (rows_from m (s + n - s) s) ≡ is_declaration (rows_from m n s)
 unfolding is_declaration
-declaration_none m s n e = rw (e, rows_none m s)
-
-module _ (m : List ℕ) (s n : ℕ) (h : n ≡ 0 → ⊥) where
-  rows_are : rows_from m n s ≡ row_at m s ∷ rows_from m (s + n - (s + 1)) (s + 1)
-  rows_are = let e : n ≡ suc (s + n - (s + 1)) = omega arith in ap (λ (k : ℕ). rows_from m k s) e ∙ rows_cons m (s + n - (s + 1)) s
-
-  whole : rows_from m (s + n - s) s ≡ row_at m s ∷ rows_from m (s + n - (s + 1)) (s + 1)
-  whole = let e : s + n - s ≡ n = omega arith in rw e rows_are
-
-  module _ (y : ℕ) (e : y ≡ (entry_at m s).depth) where
-    pub declaration_deep : (y ≡ 0 → ⊥) → false ≡ is_declaration (rows_from m n s)
-    unfolding is_declaration
-    declaration_deep g = rw (rows_are, ne_eqb (row_at m s).depth 0 (λ z. g (e ∙ z)))
-
-    module _ (g : y ≡ 0) (k : Kind) (f : k ≡ (entry_at m s).kind) where
-      top : eqb (row_at m s).depth 0 ≡ true
-      top = eq-eqb (row_at m s).depth 0 (sym e ∙ g)
-
-      kind_of_lem : is_schema (row_at m s).kind ≡ is_schema k
-      kind_of_lem = ap is_schema (sym f)
-
-      pub declaration_kind : is_schema k ≡ false → false ≡ is_declaration (rows_from m n s)
-      unfolding is_declaration
-      declaration_kind t = rw (rows_are, top, kind_of_lem ∙ t)
-
-      module _ (t : is_schema k ≡ true) where
-        pub declaration_climb : climbs 0 (rows_from m (s + n - (s + 1)) (s + 1)) ≡ false → false ≡ is_declaration (rows_from m n s)
-        unfolding is_declaration
-        declaration_climb u = rw (rows_are, top, kind_of_lem ∙ t, u)
-
-        pub declaration_last : climbs 0 (rows_from m (s + n - (s + 1)) (s + 1)) ≡ true → good_rows (rows_from m (s + n - s) s) ≡ is_declaration (rows_from m n s)
-        unfolding is_declaration
-        declaration_last u = rw (whole, rows_are, top, kind_of_lem ∙ t, u)
+declaration_is m s zero y k e f = rw (rows_none m s)
+declaration_is m s (suc n) y k e f =
+    let a : s + suc n - (s + 1) ≡ n = omega arith in
+    let b : s + suc n - s ≡ suc n = omega arith in
+    rw (a, b, rows_cons m n s, eqb-suc-zero n, e, f)

@@ -12,36 +12,29 @@ use crate::numbers::good_numbers;
 use crate::strings::good_strings;
 use crate::tree::good_parts;
 use chains::SLOTS;
-use row::read::{depth_at, kind_number};
+use row::read::{depth_at, kind_at};
 
 // Row i of a declaration that ends before `end`.
+#[tactic(auto, unfolding(crate::specs::Rules::good_row))]
 fn good_row(mem: &[u8], i: usize, end: usize, first: &mut [u16], next: &mut [u16]) -> bool
     requires { (length mem.now ≡ layout_length) × (i < end) × (end ≤ row_limit) × Sized first.old next.old }
     ensures { (result ≡ good_row (row_at mem.now i) (rows_from mem.now (end - (i + 1)) (i + 1))) × Sized first.new next.new }
 {
-    let kind = kind_number(mem, i);
-    if !good_strings(mem, kind, i) {
-        return false;
-    }
-    if !good_numbers(mem, kind, i) {
-        return false;
-    }
-    if !good_parts(mem, i, end) {
-        return false;
-    }
-    no_clash(mem, i, end, first, next)
+    let kind = kind_at(mem, i);
+    good_strings(mem, kind, i)
+        && good_numbers(mem, kind, i)
+        && good_parts(mem, i, end)
+        && no_clash(mem, i, end, first, next)
 }
 
 fn good_rows(mem: &[u8], start: usize, end: usize, first: &mut [u16], next: &mut [u16]) -> bool
     requires { (length mem.now ≡ layout_length) × (start ≤ end) × (end ≤ row_limit) × Sized first.old next.old }
     ensures { (result ≡ good_rows (rows_from mem.now (end - start) start)) × Sized first.new next.new }
 {
-    let mut i = start;
-    while i < end {
+    for i in start..end {
         if !good_row(mem, i, end, first, next) {
             return false;
         }
-        i += 1;
     }
     true
 }
@@ -52,17 +45,12 @@ fn climbs_on(mem: &[u8], start: usize, end: usize) -> bool
     ensures { result ≡ climbs 0 (rows_from mem.now (end - start) start) }
 {
     let mut depth = 0;
-    let mut i = start;
-    while i < end {
+    for i in start..end {
         let d = depth_at(mem, i);
-        if d == 0 {
-            return false;
-        }
-        if depth + 1 < d {
+        if d == 0 || depth + 1 < d {
             return false;
         }
         depth = d;
-        i += 1;
     }
     true
 }
@@ -78,19 +66,11 @@ pub fn is_declaration_by(
     requires { (length mem.now ≡ layout_length) × (start + n ≤ row_limit) × Sized first.old next.old }
     ensures { (result ≡ is_declaration (rows_from mem.now n start)) × Sized first.new next.new }
 {
-    if n == 0 {
-        return false;
-    }
-    if depth_at(mem, start) != 0 {
-        return false;
-    }
-    if !is_schema(kind_number(mem, start)) {
-        return false;
-    }
-    if !climbs_on(mem, start + 1, start + n) {
-        return false;
-    }
-    good_rows(mem, start, start + n, first, next)
+    n != 0
+        && depth_at(mem, start) == 0
+        && is_schema(kind_at(mem, start))
+        && climbs_on(mem, start + 1, start + n)
+        && good_rows(mem, start, start + n, first, next)
 }
 
 // Are the n rows from `start` on one declaration?

@@ -2,33 +2,22 @@
 ghost use Rattle.std.specs.Prelude.{◌≡◌, not, ◌&&◌, ◌-◌, length};
 ghost use Rattle.ground.specs.Bytes.{byte_at};
 ghost use Rattle.json_scan.specs.Json.{is_space, scanned};
-ghost use Rattle.row.specs.Kinds.{kind_number};
-ghost use Rattle.row.specs.declared.kind.Kind.{Kind};
 ghost use Rattle.resolve.specs.Rules.{passes, is_default, good_default};
 
-use crate::kinds::is_kind;
-use ground::byte_at;
 use json_scan::scan;
 use name::Full;
 use row::Kind;
 
 // White space between the parts of a text.
+#[tactic(auto, unfolding(json_scan::specs::Json::is_space))]
 fn is_space(b: u8) -> bool
     ensures { result ≡ is_space b }
 {
-    if b == 32 {
-        return true;
-    }
-    if b == 9 {
-        return true;
-    }
-    if b == 10 {
-        return true;
-    }
-    b == 13
+    matches!(b, b' ' | b'\t' | b'\n' | b'\r')
 }
 
 // Has the scan no fault?
+#[tactic(auto, unfolding(crate::specs::Rules::passes))]
 fn passes(text: &[u8]) -> bool
     ensures { result ≡ passes (scanned text.now) }
 {
@@ -36,39 +25,24 @@ fn passes(text: &[u8]) -> bool
 }
 
 // Is the first byte no white space, and the last none?
+#[tactic(auto, using(crate::proofs::DefaultLaws::cut_none), unfolding(ground::specs::Bytes::byte_at))]
 fn is_cut(text: &[u8]) -> bool
     ensures { result ≡ (not (is_space (byte_at text.now 0)) && not (is_space (byte_at text.now (length text.now - 1)))) }
 {
-    if text.len() == 0 {
-        return true;
-    }
-    if is_space(byte_at(text, 0)) {
-        return false;
-    }
-    !is_space(byte_at(text, text.len() - 1))
+    text.is_empty() || !is_space(text[0]) && !is_space(text[text.len() - 1])
 }
 
+#[tactic(auto, unfolding(crate::specs::Rules::is_default, name::specs::Full::is_short))]
 fn is_default(text: &[u8]) -> bool
     ensures { result ≡ is_default text.now }
 {
-    if Full::LONGEST < text.len() {
-        return false;
-    }
-    if !passes(text) {
-        return false;
-    }
-    is_cut(text)
+    text.len() <= Full::LONGEST && passes(text) && is_cut(text)
 }
 
-// The default of a row whose kind has this number: none, or that of a field.
-pub fn good_default(kind: u8, default: &[u8]) -> bool
-    ensures { (k : Kind) → kind ≡ kind_number k → result ≡ good_default k default.now }
+// The default of a row of a kind: none, or that of a field.
+#[tactic(auto, unfolding(crate::specs::Rules::good_default, crate::specs::Kinds::is_kind, name::specs::Name::is_empty))]
+pub fn good_default(kind: Kind, default: &[u8]) -> bool
+    ensures { result ≡ good_default kind default.now }
 {
-    if default.len() == 0 {
-        return true;
-    }
-    if is_kind(Kind::Field, kind) {
-        return is_default(default);
-    }
-    false
+    default.is_empty() || kind == Kind::Field && is_default(default)
 }

@@ -1,114 +1,86 @@
-// Which kinds are schemas and definitions, and what may stand under a row of each kind. A kind is told here by its number.
-ghost use Rattle.std.specs.Prelude.{◌≡◌, not, ◌&&◌};
+// Which kinds are schemas and definitions, and what may stand under a row of each kind.
+ghost use Rattle.std.specs.Prelude.{◌≡◌};
 ghost use Rattle.row.specs.Kinds.{kind_number};
 ghost use Rattle.row.specs.declared.kind.Kind.{Kind};
-ghost use Rattle.row.specs.declared.kind.Kind.TheVariants.{Union};
 ghost use Rattle.resolve.specs.Kinds.{is_kind, is_definition, is_named, is_schema, is_alias_of, has_one, is_part_of};
 ghost use Rattle.resolve.specs.Steps.{is_leading, may_end};
 
 use row::Kind;
 
+// Is n the number of a kind?
 pub fn is_kind(kind: Kind, n: u8) -> bool
     ensures { (k : Kind) → n ≡ kind_number k → result ≡ is_kind kind k }
 {
     n == kind.number()
 }
 
-pub fn is_definition(n: u8) -> bool
-    ensures { (k : Kind) → n ≡ kind_number k → result ≡ is_definition k }
+#[tactic(auto, unfolding(crate::specs::Kinds::is_definition, crate::specs::Kinds::is_kind))]
+pub fn is_definition(kind: Kind) -> bool
+    ensures { result ≡ is_definition kind }
 {
-    if is_kind(Kind::Record, n) {
-        return true;
-    }
-    if is_kind(Kind::Enum, n) {
-        return true;
-    }
-    is_kind(Kind::Fixed, n)
+    matches!(kind, Kind::Record | Kind::Enum | Kind::Fixed)
 }
 
-pub fn is_named(n: u8) -> bool
-    ensures { (k : Kind) → n ≡ kind_number k → result ≡ is_named k }
+#[tactic(auto, unfolding(crate::specs::Kinds::is_named, crate::specs::Kinds::is_kind))]
+pub fn is_named(kind: Kind) -> bool
+    ensures { result ≡ is_named kind }
 {
-    if is_definition(n) {
-        return true;
-    }
-    is_kind(Kind::Reference, n)
+    is_definition(kind) || kind == Kind::Reference
 }
 
-// The numbers of schemas come before that of a field.
-pub fn is_schema(n: u8) -> bool
-    ensures { (k : Kind) → n ≡ kind_number k → result ≡ is_schema k }
+#[tactic(auto, unfolding(crate::specs::Kinds::is_schema, crate::specs::Kinds::is_primitive, crate::specs::Kinds::is_named, crate::specs::Kinds::is_definition, crate::specs::Kinds::is_kind))]
+pub fn is_schema(kind: Kind) -> bool
+    ensures { result ≡ is_schema kind }
 {
-    n < Kind::Field.number()
+    !matches!(
+        kind,
+        Kind::Field | Kind::Symbol | Kind::Alias | Kind::FieldAlias
+    )
 }
 
-fn is_alias_of(kind: u8, n: u8) -> bool
-    ensures { (a k : Kind) → kind ≡ kind_number a → n ≡ kind_number k → result ≡ is_alias_of a k }
+// Is k the kind of an alias of a row of a kind?
+#[tactic(auto, unfolding(crate::specs::Kinds::is_alias_of, crate::specs::Kinds::is_definition, crate::specs::Kinds::is_kind))]
+fn is_alias_of(kind: Kind, k: Kind) -> bool
+    ensures { result ≡ is_alias_of kind k }
 {
-    if is_definition(kind) {
-        return is_kind(Kind::Alias, n);
+    match kind {
+        Kind::Record | Kind::Enum | Kind::Fixed => k == Kind::Alias,
+        Kind::Field => k == Kind::FieldAlias,
+        _ => false,
     }
-    if is_kind(Kind::Field, kind) {
-        return is_kind(Kind::FieldAlias, n);
-    }
-    false
 }
 
-fn has_one(kind: u8) -> bool
-    ensures { (a : Kind) → kind ≡ kind_number a → result ≡ has_one a }
+#[tactic(auto, unfolding(crate::specs::Kinds::has_one, crate::specs::Kinds::is_kind))]
+fn has_one(kind: Kind) -> bool
+    ensures { result ≡ has_one kind }
 {
-    if is_kind(Kind::Array, kind) {
-        return true;
-    }
-    if is_kind(Kind::Map, kind) {
-        return true;
-    }
-    is_kind(Kind::Field, kind)
+    matches!(kind, Kind::Array | Kind::Map | Kind::Field)
 }
 
-fn is_member(n: u8) -> bool
-    ensures { (k : Kind) → n ≡ kind_number k → result ≡ (not (is_kind Union k) && is_schema k) }
+#[tactic(auto, unfolding(crate::specs::Kinds::is_part_of, crate::specs::Kinds::is_kind))]
+pub fn is_part_of(kind: Kind, k: Kind) -> bool
+    ensures { result ≡ is_part_of kind k }
 {
-    if is_kind(Kind::Union, n) {
-        return false;
+    match kind {
+        Kind::Record => k == Kind::Field,
+        Kind::Enum => k == Kind::Symbol,
+        Kind::Union => k != Kind::Union && is_schema(k),
+        _ => has_one(kind) && is_schema(k),
     }
-    is_schema(n)
 }
 
-pub fn is_part_of(kind: u8, n: u8) -> bool
-    ensures { (a k : Kind) → kind ≡ kind_number a → n ≡ kind_number k → result ≡ is_part_of a k }
+// Is a row of kind k, behind so many parts, one of the aliases that stand before the parts?
+#[tactic(auto, unfolding(crate::specs::Steps::is_leading))]
+pub fn is_leading(kind: Kind, parts: usize, k: Kind) -> bool
+    ensures { result ≡ is_leading kind parts k }
 {
-    if is_kind(Kind::Record, kind) {
-        return is_kind(Kind::Field, n);
-    }
-    if is_kind(Kind::Enum, kind) {
-        return is_kind(Kind::Symbol, n);
-    }
-    if is_kind(Kind::Union, kind) {
-        return is_member(n);
-    }
-    if has_one(kind) {
-        return is_schema(n);
-    }
-    false
-}
-
-// Is a row of the number n, behind so many parts, one of the aliases that stand before the parts?
-pub fn is_leading(kind: u8, parts: usize, n: u8) -> bool
-    ensures { (a k : Kind) → kind ≡ kind_number a → n ≡ kind_number k → result ≡ is_leading a parts k }
-{
-    if parts != 0 {
-        return false;
-    }
-    is_alias_of(kind, n)
+    parts == 0 && is_alias_of(kind, k)
 }
 
 // May a row of a kind have so many parts?
-pub fn may_end(kind: u8, parts: usize) -> bool
-    ensures { (a : Kind) → kind ≡ kind_number a → result ≡ may_end a parts }
+#[tactic(auto, unfolding(crate::specs::Steps::may_end))]
+pub fn may_end(kind: Kind, parts: usize) -> bool
+    ensures { result ≡ may_end kind parts }
 {
-    if has_one(kind) {
-        return parts == 1;
-    }
-    true
+    !has_one(kind) || parts == 1
 }

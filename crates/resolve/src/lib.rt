@@ -10,14 +10,6 @@ mod numbers;
 mod strings;
 mod tree;
 
-use answer::Fault;
 pub use declaration::{is_declaration, is_declaration_by};
 pub use kinds::is_kind;
 pub use names::{definition_of, first_fault, is_defined};
-
-// What became of a declaration's names: each resolves, or the first fault, with the position that its row recorded.
-#[derive(Clone, Copy)]
-pub enum Resolution {
-    Resolved,
-    Faulty(Fault),
-}

@@ -1,13 +1,15 @@
 -- Laws of numbers as bytes.
 -- Assumes nothing.
-use mathlib.Core.Path.{◌≡◌, refl, ap}
+use mathlib.Core.Path.{◌≡◌, refl, ap, ◌∙◌}
 use mathlib.Core.List.{List, [], ◌∷◌}
-use Prim.Native.Nat.{ℕ, zero, suc, ◌+◌, ◌*◌, ◌/◌, ◌^◌, ◌<◌}
-use native.Mathlib.Nat.{pow-suc, div-lt_iff_lt-mul}
+use Prim.Native.Nat.{ℕ, zero, suc, ◌+◌, ◌-◌, ◌*◌, ◌/◌, ◌^◌, ◌<◌}
+use native.Mathlib.Nat.{pow-suc, div-div-eq-div-mul, div-lt_iff_lt-mul}
 use native.Mathlib.Omega.{arith}
 use lib.Dec.{lit<}
-use lib.ListN.{length, get_or}
-use lib.Seq.{take-nil, drop-nil}
+use lib.ListN.{length, get_or, take, drop}
+use lib.Seq.{take-nil, drop-nil, take_all}
+use Rattle.std.specs.Int.{w64, from_le_bytes, to_le_bytes}
+use Rattle.std.specs.Array.{IsWholeChunk}
 use Rattle.ground.specs.Bytes.{part}
 use Rattle.ground.specs.Numbers.{low_first}
 use Rattle.row.specs.Numbers.{le, number}
@@ -62,3 +64,31 @@ number_eight m at =
     let e : at + 2 + 2 ≡ at + 4 = omega arith in
     let f : at + 4 + 2 ≡ at + 6 = omega arith in
     omega (arith, number_more m at 6, rw e at (number_more m (at + 2) 4), rw f at (number_more m (at + 4) 2))
+
+-- an array of the n bytes from a place on holds their number
+whole_number : (m y : List ℕ) (at n : ℕ) → IsWholeChunk (take (at + n - at) (drop at m)) y n → number y 0 n ≡ number m at n
+unfolding part
+whole_number m y at n w =
+    let k : at + n - at ≡ n = omega arith in
+    let l : length y ≡ n = ap length w.same ∙ w.long in
+    ap le (take_all n y (omega arith) ∙ w.same) ∙ rw k
+
+pub two_read : (m y : List ℕ) (at r : ℕ) → IsWholeChunk (take (at + 2 - at) (drop at m)) y 2 → r ≡ get_or y 0 0 + get_or y 1 0 * 256 → r ≡ number m at 2
+two_read m y at r w e = omega (arith, whole_number m y at 2 w, number_two y 0)
+
+pub eight_read : (m y : List ℕ) (at r : ℕ) → IsWholeChunk (take (at + 8 - at) (drop at m)) y 8 → r ≡ from_le_bytes w64 y → r ≡ number m at 8
+eight_read m y at r w e = omega (arith, whole_number m y at 8 w, number_eight y 0, number_two y 0, number_two y 2, number_two y 4, number_two y 6)
+
+-- ---- writing
+
+pub low_eight : (v : ℕ) → to_le_bytes w64 v ≡ low_first 8 v
+unfolding low_first
+low_eight v =
+    rw (
+      div-div-eq-div-mul v 256 256,
+      div-div-eq-div-mul v 65536 256,
+      div-div-eq-div-mul v 16777216 256,
+      div-div-eq-div-mul v 4294967296 256,
+      div-div-eq-div-mul v 1099511627776 256,
+      div-div-eq-div-mul v 281474976710656 256,
+    )

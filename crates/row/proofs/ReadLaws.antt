@@ -1,8 +1,9 @@
 -- What the readers' steps come to, over plain values.
 -- Assumes nothing.
-use mathlib.Core.Path.{◌≡◌, refl, sym, ap, ◌∙◌}
+use mathlib.Core.Path.{◌≡◌, sym, ap, ◌∙◌}
 use mathlib.Core.List.{List}
 use Prim.Native.Nat.{ℕ, suc, ◌+◌, ◌-◌, ◌*◌, ◌<◌, ◌≤◌, min}
+use native.Mathlib.Decide.{dec_le}
 use native.Mathlib.Nat.{add-zero, sub-zero}
 use native.Mathlib.Omega.{arith}
 use lib.ListN.{length, take, drop, get_or, length-take, length-drop, drop_of_length-le}
@@ -11,7 +12,7 @@ use borrow.Author.Tests.{eq-eqb, ne_eqb}
 use Rattle.answer.specs.declared.counts.Counts.{Counts}
 use Rattle.answer.specs.Limits.{counts_of}
 use Rattle.ground.specs.Bytes.{part}
-use Rattle.row.specs.Kinds.{kind_number, kind_of}
+use Rattle.row.specs.Kinds.{kind_of}
 use Rattle.row.specs.Numbers.{le, number}
 use Rattle.row.specs.Layout.{row_size, rows_start, string_limit, strings_start, layout_length}
 use Rattle.row.specs.Rows.{entry_of, text_of, text_start, text_length, default_of, default_length, strings_length}
@@ -37,9 +38,6 @@ module _ (m : List ℕ) (i : ℕ) where
   pub read_kind : (k : Kind) → k ≡ kind_of (get_or m (rows_start + row_size * i) 0) → k ≡ (entry_at m i).kind
   unfolding at entry_at entry_of
   read_kind k e = e ∙ ap (λ (n : ℕ). kind_of (get_or m n 0)) (sym (add-zero at)) ∙ ap kind_of (byte_from m at 0)
-
-  pub read_number : {r : ℕ} → r ≡ kind_number (kind_of (get_or m (rows_start + row_size * i) 0)) → r ≡ kind_number (entry_at m i).kind
-  read_number e = e ∙ ap kind_number (read_kind (kind_of (get_or m (rows_start + row_size * i) 0)) refl)
 
   pub read_depth : {r : ℕ} → r ≡ number m (rows_start + row_size * i + 2) 2 → r ≡ (entry_at m i).depth
   unfolding at entry_at entry_of
@@ -81,19 +79,31 @@ module _ (m : List ℕ) (i : ℕ) where
 
 -- ---- a row's string
 
-pub cut_none : (s : List ℕ) (at n : ℕ) → length s ≤ at → take (length s - length s) (drop (length s) s) ≡ part s at n
+cut_none : (s : List ℕ) (at n : ℕ) → length s ≤ at → take (length s - length s) (drop (length s) s) ≡ part s at n
 unfolding part
 cut_none s at n h = ap (take (length s - length s)) (drop_of_length-le s {i = length s} (omega arith)) ∙ take-nil (length s - length s) ∙ sym (ap (take n) (drop_of_length-le s h) ∙ take-nil n)
 
-pub cut_rest : (s : List ℕ) (at n : ℕ) → length s - at ≤ n → take (length s - at) (drop at s) ≡ part s at n
+cut_rest : (s : List ℕ) (at n : ℕ) → length s - at ≤ n → take (length s - at) (drop at s) ≡ part s at n
 unfolding part
 cut_rest s at n h =
     let l = length-drop at s in
     take_all (length s - at) (drop at s) (omega arith) ∙ sym (take_all n (drop at s) (omega arith))
 
-pub cut_part : (s : List ℕ) (at n : ℕ) → take (at + n - at) (drop at s) ≡ part s at n
+cut_part : (s : List ℕ) (at n : ℕ) → take (at + n - at) (drop at s) ≡ part s at n
 unfolding part
 cut_part s at n = let e : at + n - at ≡ n = omega arith in rw e
+
+pub cut_is : (s : List ℕ) (at n f k : ℕ) → f ≡ min at (length s) → k ≡ min n (length s - f) → take (f + k - f) (drop f s) ≡ part s at n
+cut_is s at n f k e d =
+    elim (dec_le (length s) at) [
+      | yes h ↦ let a : f ≡ length s = omega arith in let b : length s + k - length s ≡ length s - length s = omega arith in rw (a, b) (cut_none s at n h)
+      | no h ↦
+          let a : f ≡ at = omega arith in
+          elim (dec_le (length s - at) n) [
+            | yes l ↦ let b : at + k - at ≡ length s - at = omega arith in rw (a, b) (cut_rest s at n l)
+            | no l ↦ let b : k ≡ n = omega arith in rw (a, b) (cut_part s at n)
+          ]
+    ]
 
 pub read_text : (m x : List ℕ) (i b n : ℕ) → b ≡ text_start (from_row m i) → n ≡ text_length (from_row m i) → x ≡ part (take (length m - strings_start) (drop strings_start m)) b n → x ≡ text_at m i
 unfolding text_at text_of

@@ -1,15 +1,15 @@
 -- Rows come back from their bytes.
 -- Assumes nothing.
 use mathlib.Core.Path.{◌≡◌, refl, sym, ap, ap₂, ◌∙◌}
-use mathlib.Core.Bool.{Bool, true, false, cond}
+use mathlib.Core.Bool.{true}
 use mathlib.Core.List.{List, [], ◌∷◌, ◌++◌, append_assoc}
 use Prim.Native.Nat.{ℕ, zero, suc, ◌+◌, ◌*◌, ◌^◌, ◌<◌}
 use native.Mathlib.Nat.{add-zero}
 use native.Mathlib.Omega.{arith}
-use lib.Dec.{eqb, ltb}
+use lib.Dec.{ltb}
 use lib.ListN.{length, get_or, length-append}
 use lib.Seq.{drop_at}
-use borrow.Author.Tests.{ltb-true, ne_eqb}
+use borrow.Author.Tests.{ltb-true}
 use Rattle.ground.specs.Bytes.{part}
 use Rattle.ground.proofs.Laws.{and_true, and_intro, part_mid}
 use Rattle.row.specs.Kinds.{kind_number, kind_of}
@@ -48,38 +48,6 @@ kind_back FieldAlias = refl
 
 pub one_kind : (j k : Kind) → kind_number j ≡ kind_number k → j ≡ k
 one_kind j k e = sym (kind_back j) ∙ ap kind_of e ∙ kind_back k
-
-pass : (n j : ℕ) (k k' : Kind) → (n ≡ j → ⊥) → k' ≡ Null → cond (eqb n j) k k' ≡ Null
-pass n j k k' h e = rw (ne_eqb n j h) e
-
-first : (t : Bool) (k : Kind) → k ≡ Null → cond t Null k ≡ Null
-first true k e = refl
-first false k e = e
-
--- a number that only Null can have
-pub no_kind : (n : ℕ) → ((((((((((((((((((Unit {0} × (n ≡ 2 → ⊥)) × (n ≡ 3 → ⊥)) × (n ≡ 4 → ⊥)) × (n ≡ 5 → ⊥)) × (n ≡ 6 → ⊥)) × (n ≡ 7 → ⊥)) × (n ≡ 8 → ⊥)) × (n ≡ 16 → ⊥)) × (n ≡ 24 → ⊥)) × (n ≡ 25 → ⊥)) × (n ≡ 26 → ⊥)) × (n ≡ 32 → ⊥)) × (n ≡ 33 → ⊥)) × (n ≡ 34 → ⊥)) × (n ≡ 40 → ⊥)) × (n ≡ 41 → ⊥)) × (n ≡ 48 → ⊥)) × (n ≡ 49 → ⊥)) → kind_of n ≡ Null
-unfolding kind_of
-no_kind n h =
-    first (eqb n 1) _
-    (pass n 2 Boolean _ h.0.0.0.0.0.0.0.0.0.0.0.0.0.0.0.0.0.1
-    (pass n 3 Int _ h.0.0.0.0.0.0.0.0.0.0.0.0.0.0.0.0.1
-    (pass n 4 Long _ h.0.0.0.0.0.0.0.0.0.0.0.0.0.0.0.1
-    (pass n 5 Float _ h.0.0.0.0.0.0.0.0.0.0.0.0.0.0.1
-    (pass n 6 Double _ h.0.0.0.0.0.0.0.0.0.0.0.0.0.1
-    (pass n 7 Bytes _ h.0.0.0.0.0.0.0.0.0.0.0.0.1
-    (pass n 8 String _ h.0.0.0.0.0.0.0.0.0.0.0.1
-    (pass n 16 Reference _ h.0.0.0.0.0.0.0.0.0.0.1
-    (pass n 24 Array _ h.0.0.0.0.0.0.0.0.0.1
-    (pass n 25 Map _ h.0.0.0.0.0.0.0.0.1
-    (pass n 26 Union _ h.0.0.0.0.0.0.0.1
-    (pass n 32 Record _ h.0.0.0.0.0.0.1
-    (pass n 33 Enum _ h.0.0.0.0.0.1
-    (pass n 34 Fixed _ h.0.0.0.0.1
-    (pass n 40 Field _ h.0.0.0.1
-    (pass n 41 Symbol _ h.0.0.1
-    (pass n 48 Alias _ h.0.1
-    (pass n 49 FieldAlias _ h.1
-    refl))))))))))))))))))
 
 -- ---- one row
 

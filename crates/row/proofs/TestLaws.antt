@@ -10,11 +10,10 @@ use lib.Dec.{eqb, leb}
 use lib.ListN.{length, drop, get_or}
 use lib.Seq.{drop-drop}
 use borrow.Author.Tests.{eq-eqb, ne_eqb, le-leb, lt-leb, leb-true}
-use Rattle.ground.specs.Bytes.{part, all_zero}
 use Rattle.ground.proofs.Laws.{and_true}
 use Rattle.row.specs.Kinds.{kind_number, kind_of}
 use Rattle.row.specs.Numbers.{number}
-use Rattle.row.specs.Layout.{declaration_limit, row_limit, string_limit, header_size, row_size, rows_start, strings_start, layout_length}
+use Rattle.row.specs.Layout.{declaration_limit, row_limit, string_limit, row_size, rows_start, layout_length}
 use Rattle.row.specs.Rows.{text_start, strings_length}
 use Rattle.row.specs.Sets.{count_in, is_encoding}
 use Rattle.row.specs.Memory.{from_row, rows_before}
@@ -31,23 +30,11 @@ module _ (m : List ℕ) (i o j : ℕ) (je : j ≡ kind_number (kind_of (get_or m
   its_kind : j ≡ kind_number (kind_of (number (from_row m i) 0 1))
   its_kind = je ∙ ap (λ (n : ℕ). kind_number (kind_of n)) first
 
-  pub no_such_kind : (j ≡ get_or m (rows_start + row_size * i) 0 → ⊥) → false ≡ tidy_row o (from_row m i)
+  -- the three tests, by what is read for each
+  pub tidy_is : (s w : ℕ) → s ≡ text_start (from_row m i) → w ≡ strings_length (from_row m i)
+      → eqb j (get_or m (rows_start + row_size * i) 0) && eqb s o && leb (o + w) string_limit ≡ tidy_row o (from_row m i)
   unfolding tidy_row
-  no_such_kind h = rw (ne_eqb (kind_number (kind_of (number (from_row m i) 0 1))) (number (from_row m i) 0 1) (λ e. h (its_kind ∙ e ∙ sym first)))
-
-  module _ (same : j ≡ get_or m (rows_start + row_size * i) 0) (s : ℕ) (se : s ≡ text_start (from_row m i)) where
-    kind_known_lem : kind_number (kind_of (number (from_row m i) 0 1)) ≡ number (from_row m i) 0 1
-    kind_known_lem = sym its_kind ∙ same ∙ first
-
-    pub other_start : (s ≡ o → ⊥) → false ≡ tidy_row o (from_row m i)
-    unfolding tidy_row
-    other_start h =
-        rw (eq-eqb (kind_number (kind_of (number (from_row m i) 0 1))) (number (from_row m i) 0 1) kind_known_lem, ne_eqb (text_start (from_row m i)) o (λ e. h (se ∙ e)))
-
-    pub start_there : s ≡ o → (w : ℕ) → w ≡ strings_length (from_row m i) → leb (o + w) string_limit ≡ tidy_row o (from_row m i)
-    unfolding tidy_row
-    start_there h w we =
-        rw (eq-eqb (kind_number (kind_of (number (from_row m i) 0 1))) (number (from_row m i) 0 1) kind_known_lem, eq-eqb (text_start (from_row m i)) o (sym se ∙ h), we)
+  tidy_is s w se we = rw (its_kind, first, se, we)
 
 -- ---- many rows
 
@@ -78,30 +65,6 @@ module _ (m : List ℕ) (n i o x : ℕ) (inv : tidy_end (n - i) o (drop (rows_st
   pub end_end : n ≤ i → o ≡ x
   unfolding tidy_end
   end_end l = let f : n - i ≡ 0 = omega arith in rw f at inv
-
--- ---- spare bytes
-
-module _ (m : List ℕ) (n t e : ℕ) where
-  abbrev size_spare : Bool
-  size_spare = all_zero (part m (2 + 2 * n) (header_size - (2 + 2 * n)))
-
-  abbrev row_spare : Bool
-  row_spare = all_zero (part m (rows_start + row_size * t) (strings_start - (rows_start + row_size * t)))
-
-  abbrev text_spare : Bool
-  text_spare = all_zero (part m (strings_start + e) (layout_length - (strings_start + e)))
-
-  pub sizes_left : size_spare ≡ false → false ≡ spare_zero m n t e
-  unfolding spare_zero
-  sizes_left p = rw p
-
-  pub rows_left_lem : size_spare ≡ true → row_spare ≡ false → false ≡ spare_zero m n t e
-  unfolding spare_zero
-  rows_left_lem p q = rw (p, q)
-
-  pub texts_left : size_spare ≡ true → row_spare ≡ true → text_spare ≡ spare_zero m n t e
-  unfolding spare_zero
-  texts_left p q = rw (p, q)
 
 -- ---- the whole test
 

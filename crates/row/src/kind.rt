@@ -2,57 +2,38 @@
 ghost use Rattle.std.specs.Prelude.{◌≡◌};
 ghost use Rattle.row.specs.Kinds.{kind_number, kind_of};
 
-#[derive(Clone, Copy)]
+#[derive(Clone, Copy, PartialEq, Eq)]
 pub enum Kind {
-    Null,
-    Boolean,
-    Int,
-    Long,
-    Float,
-    Double,
-    Bytes,
-    String,
-    Reference,
-    Array,
-    Map,
-    Union,
-    Record,
-    Enum,
-    Fixed,
-    Field,
-    Symbol,
-    Alias,
-    FieldAlias,
+    Null = 1,
+    Boolean = 2,
+    Int = 3,
+    Long = 4,
+    Float = 5,
+    Double = 6,
+    Bytes = 7,
+    String = 8,
+    Reference = 16,
+    Array = 24,
+    Map = 25,
+    Union = 26,
+    Record = 32,
+    Enum = 33,
+    Fixed = 34,
+    Field = 40,
+    Symbol = 41,
+    Alias = 48,
+    FieldAlias = 49,
 }
 
 impl Kind {
     pub fn number(self) -> u8
         ensures { result ≡ kind_number self }
     {
-        match self {
-            Kind::Null => 1,
-            Kind::Boolean => 2,
-            Kind::Int => 3,
-            Kind::Long => 4,
-            Kind::Float => 5,
-            Kind::Double => 6,
-            Kind::Bytes => 7,
-            Kind::String => 8,
-            Kind::Reference => 16,
-            Kind::Array => 24,
-            Kind::Map => 25,
-            Kind::Union => 26,
-            Kind::Record => 32,
-            Kind::Enum => 33,
-            Kind::Fixed => 34,
-            Kind::Field => 40,
-            Kind::Symbol => 41,
-            Kind::Alias => 48,
-            Kind::FieldAlias => 49,
-        }
+        self as u8
     }
 
     // The kind that has the number; Null where none has.
+    #[tactic(auto, unfolding(crate::specs::Kinds::kind_of))]
     pub fn of(number: u8) -> Kind
         ensures { result ≡ kind_of number }
     {
@@ -79,31 +60,10 @@ impl Kind {
         }
     }
 
-    // The number of the kind that has this one: the number itself, or that of Null where no kind has it. No kind is made on the way,
-    // so that one test tells.
+    // The number of the kind that has this one: the number itself, or that of Null where no kind has it.
     pub fn known(number: u8) -> u8
         ensures { result ≡ kind_number (kind_of number) }
     {
-        match number {
-            2 => number,
-            3 => number,
-            4 => number,
-            5 => number,
-            6 => number,
-            7 => number,
-            8 => number,
-            16 => number,
-            24 => number,
-            25 => number,
-            26 => number,
-            32 => number,
-            33 => number,
-            34 => number,
-            40 => number,
-            41 => number,
-            48 => number,
-            49 => number,
-            _ => 1,
-        }
+        Kind::of(number).number()
     }
 }

@@ -10,7 +10,7 @@ ghost use Rattle.row.specs.Memory.{from_row, entry_at, text_at, default_at, text
 use crate::Entry;
 use crate::kind::Kind;
 use crate::layout::Layout;
-use crate::number::{byte_at, u16_at, u64_at};
+use crate::number::{u16_at, u64_at};
 use answer::Counts;
 
 // The kind of row i.
@@ -22,13 +22,12 @@ pub fn kind_at(mem: &[u8], i: usize) -> Kind
     Kind::of(mem[at])
 }
 
-// The number of that kind. No kind is made on the way.
+// The number of that kind.
 pub fn kind_number(mem: &[u8], i: usize) -> u8
     requires { (length mem.now ≡ layout_length) × (i < row_limit) }
     ensures { result ≡ kind_number (entry_at mem.now i).kind }
 {
-    let at = Layout::ROWS + Layout::ROW * i;
-    Kind::known(mem[at])
+    kind_at(mem, i).number()
 }
 
 // Each number of row i alone.
@@ -37,7 +36,7 @@ pub fn depth_at(mem: &[u8], i: usize) -> usize
     ensures { (result ≡ (entry_at mem.now i).depth) × (result < 65536) }
 {
     let at = Layout::ROWS + Layout::ROW * i;
-    u16_at(mem, at + 2) as usize
+    usize::from(u16_at(mem, at + 2))
 }
 
 pub fn position_at(mem: &[u8], i: usize) -> usize
@@ -45,7 +44,7 @@ pub fn position_at(mem: &[u8], i: usize) -> usize
     ensures { result ≡ (entry_at mem.now i).position }
 {
     let at = Layout::ROWS + Layout::ROW * i;
-    u16_at(mem, at + 4) as usize
+    usize::from(u16_at(mem, at + 4))
 }
 
 pub fn size_at(mem: &[u8], i: usize) -> u64
@@ -103,7 +102,7 @@ fn text_length(mem: &[u8], i: usize) -> usize
     ensures { (result ≡ text_length (from_row mem.now i)) × (result < 256) }
 {
     let at = Layout::ROWS + Layout::ROW * i;
-    byte_at(mem, at + 6)
+    usize::from(mem[at + 6])
 }
 
 // How long its default is.
@@ -112,7 +111,7 @@ fn default_length(mem: &[u8], i: usize) -> usize
     ensures { (result ≡ default_length (from_row mem.now i)) × (result < 256) }
 {
     let at = Layout::ROWS + Layout::ROW * i;
-    byte_at(mem, at + 7)
+    usize::from(mem[at + 7])
 }
 
 // How long both are together.
@@ -129,20 +128,16 @@ pub(crate) fn text_start(mem: &[u8], i: usize) -> usize
     ensures { (result ≡ text_start (from_row mem.now i)) × (result < 65536) }
 {
     let at = Layout::ROWS + Layout::ROW * i;
-    u16_at(mem, at + 8) as usize
+    usize::from(u16_at(mem, at + 8))
 }
 
 // The n bytes of s from a place on, or as many of them as there are: a part of s, not only equal bytes.
 fn cut(s: &[u8], at: usize, n: usize) -> &[u8]
     ensures { (result.now ≡ part s.now at n) × (result.ref_ptr ≡ behind s.entry.ref_ptr (min at (length s.now))) }
 {
-    if s.len() <= at {
-        return &s[s.len()..];
-    }
-    if s.len() - at <= n {
-        return &s[at..];
-    }
-    &s[at..at + n]
+    let from = at.min(s.len());
+    let n = n.min(s.len() - from);
+    &s[from..from + n]
 }
 
 // The string of row i, a part of the memory; of one that does not lie in the string area, the part that does.
@@ -181,7 +176,7 @@ pub fn declarations(mem: &[u8]) -> usize
     requires { length mem.now ≡ layout_length }
     ensures { result ≡ count_in mem.now }
 {
-    u16_at(mem, 0) as usize
+    usize::from(u16_at(mem, 0))
 }
 
 // How many rows the declaration at a place has.
@@ -189,7 +184,7 @@ pub fn rows_of(mem: &[u8], place: usize) -> usize
     requires { (length mem.now ≡ layout_length) × (place < declaration_limit) }
     ensures { (result ≡ size_at mem.now place) × (result < 65536) }
 {
-    u16_at(mem, 2 + 2 * place) as usize
+    usize::from(u16_at(mem, 2 + 2 * place))
 }
 
 // How many rows the declarations before a place have.
@@ -198,10 +193,8 @@ pub fn rows_before(mem: &[u8], place: usize) -> usize
     ensures { result ≡ rows_before mem.now place }
 {
     let mut sum = 0;
-    let mut i = 0;
-    while i < place {
+    for i in 0..place {
         sum += rows_of(mem, i);
-        i += 1;
     }
     sum
 }

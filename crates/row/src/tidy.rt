@@ -1,5 +1,5 @@
 // Whether bytes are the encoding of a set, in one pass.
-ghost use Rattle.std.specs.Prelude.{◌≡◌, ◌≤◌, ◌<◌, length};
+ghost use Rattle.std.specs.Prelude.{◌≡◌, ◌≤◌, ◌<◌, length, MatchOption};
 ghost use Rattle.row.specs.Layout.{declaration_limit, row_limit, string_limit, layout_length};
 ghost use Rattle.row.specs.Sets.{is_encoding};
 ghost use Rattle.row.specs.Memory.{from_row};
@@ -17,44 +17,35 @@ fn tidy_row(mem: &[u8], i: usize, end: usize) -> bool
     ensures { result ≡ tidy_row end (from_row mem.now i) }
 {
     let number = mem[Layout::ROWS + Layout::ROW * i];
-    if Kind::known(number) != number {
-        return false;
-    }
-    if text_start(mem, i) != end {
-        return false;
-    }
-    end + strings_length(mem, i) <= Counts::STRING_BYTES
+    Kind::known(number) == number
+        && text_start(mem, i) == end
+        && end + strings_length(mem, i) <= Counts::STRING_BYTES
 }
 
-// Where the strings of the first n rows end; past the limit where a row is not as it should be.
-fn rows_end(mem: &[u8], n: usize) -> usize
+// Where the strings of the first n rows end; None where a row is not as it should be.
+fn rows_end(mem: &[u8], n: usize) -> Option<usize>
     requires { (length mem.now ≡ layout_length) × (n ≤ row_limit) }
-    ensures { result ≡ rows_end mem.now n }
+    ensures { MatchOption result (string_limit < rows_end mem.now n) (λ end. (end ≡ rows_end mem.now n) × (end ≤ string_limit)) }
 {
     let mut end = 0;
-    let mut i = 0;
-    while i < n {
+    for i in 0..n {
         if !tidy_row(mem, i, end) {
-            return Counts::STRING_BYTES + 1;
+            return None;
         }
         end += strings_length(mem, i);
-        i += 1;
     }
-    end
+    Some(end)
 }
 
 // Is all zero but n declarations, `rows` rows and `end` string bytes?
+#[tactic(auto, unfolding(crate::specs::Tidy::spare_zero, ground::specs::Bytes::part))]
 fn spare_zero(mem: &[u8], n: usize, rows: usize, end: usize) -> bool
     requires { (length mem.now ≡ layout_length) × (n ≤ declaration_limit) × (rows ≤ row_limit) × (end ≤ string_limit) }
     ensures { result ≡ spare_zero mem.now n rows end }
 {
-    if !all_zero(&mem[2 + 2 * n..Layout::ROWS]) {
-        return false;
-    }
-    if !all_zero(&mem[Layout::ROWS + Layout::ROW * rows..Layout::STRINGS]) {
-        return false;
-    }
-    all_zero(&mem[Layout::STRINGS + end..Layout::LENGTH])
+    all_zero(&mem[2 + 2 * n..Layout::ROWS])
+        && all_zero(&mem[Layout::ROWS + Layout::ROW * rows..Layout::STRINGS])
+        && all_zero(&mem[Layout::STRINGS + end..Layout::LENGTH])
 }
 
 // Are the bytes the encoding of a set within the limits?
@@ -72,9 +63,8 @@ pub fn is_encoding(mem: &[u8]) -> bool
     if Counts::ROWS < rows {
         return false;
     }
-    let end = rows_end(mem, rows);
-    if Counts::STRING_BYTES < end {
-        return false;
+    match rows_end(mem, rows) {
+        Some(end) => spare_zero(mem, n, rows, end),
+        None => false,
     }
-    spare_zero(mem, n, rows, end)
 }

@@ -1,14 +1,13 @@
 // Writing a set's memory.
-ghost use Rattle.std.specs.Prelude.{◌≡◌, ◌++◌, ◌+◌, ◌≤◌, ◌<◌, min, length};
+ghost use Rattle.std.specs.Prelude.{◌≡◌, ◌+◌, ◌≤◌, ◌<◌, length};
 ghost use Rattle.ground.specs.Bytes.{store};
 ghost use Rattle.row.specs.Layout.{declaration_limit, row_limit, string_limit, layout_length};
-ghost use Rattle.row.specs.Rows.{row_of, with_default, strings_of, encode_front, encode_row};
+ghost use Rattle.row.specs.Rows.{row_of, with_default, strings_of, encode_row};
 ghost use Rattle.row.specs.Sets.{zeros, rows_from};
-ghost use Rattle.row.specs.Memory.{most, counted, has_room, written, pushed, counted_all, pushed_all, declared};
+ghost use Rattle.row.specs.Memory.{counted, has_room, written, pushed, counted_all, pushed_all, declared};
 
 use crate::Entry;
 use crate::layout::Layout;
-use crate::number::{eight, two};
 use crate::read::{default_of, read_row, string_of};
 use answer::Counts;
 use ground::copy;
@@ -17,84 +16,25 @@ use ground::copy;
 pub fn clear(mem: &mut [u8])
     ensures { mem.new ≡ zeros (length mem.old) }
 {
-    let mut at = 0;
-    while at < mem.len() {
-        mem[at] = 0;
-        at += 1;
-    }
-}
-
-// The front of a row whose strings lie from `start` on in the string area.
-fn front(row: Entry, start: u16, text: &[u8], default: &[u8]) -> [u8; 10]
-    ensures { result ≡ encode_front start (with_default row text.now default.now) }
-{
-    let kind = row.kind;
-    let number = kind.number();
-    [
-        number,
-        row.note,
-        (row.depth % 256) as u8,
-        (row.depth / 256 % 256) as u8,
-        (row.position % 256) as u8,
-        (row.position / 256 % 256) as u8,
-        (text.len() % 256) as u8,
-        (default.len() % 256) as u8,
-        (start % 256) as u8,
-        (start / 256 % 256) as u8,
-    ]
-}
-
-// A row's four parts in one array, so that one copy stores them.
-fn joined(front: [u8; 10], size: [u8; 8], precision: [u8; 8], scale: [u8; 8]) -> [u8; 34]
-    ensures { result ≡ front ++ (size ++ (precision ++ scale)) }
-{
-    [
-        front[0],
-        front[1],
-        front[2],
-        front[3],
-        front[4],
-        front[5],
-        front[6],
-        front[7],
-        front[8],
-        front[9],
-        size[0],
-        size[1],
-        size[2],
-        size[3],
-        size[4],
-        size[5],
-        size[6],
-        size[7],
-        precision[0],
-        precision[1],
-        precision[2],
-        precision[3],
-        precision[4],
-        precision[5],
-        precision[6],
-        precision[7],
-        scale[0],
-        scale[1],
-        scale[2],
-        scale[3],
-        scale[4],
-        scale[5],
-        scale[6],
-        scale[7],
-    ]
+    mem.fill(0);
 }
 
 // The bytes of a row whose strings lie from `start` on in the string area.
-fn bytes_of(row: Entry, start: u16, text: &[u8], default: &[u8]) -> [u8; 34]
+fn bytes_of(row: Entry, start: u16, text: &[u8], default: &[u8]) -> [u8; Layout::ROW]
     ensures { result ≡ encode_row start (with_default row text.now default.now) }
 {
-    let first = front(row, start, text, default);
-    let size = eight(row.size);
-    let precision = eight(row.precision);
-    let scale = eight(row.scale);
-    joined(first, size, precision, scale)
+    let mut bytes = [0; Layout::ROW];
+    bytes[0] = row.kind.number();
+    bytes[1] = row.note;
+    bytes[2..4].copy_from_slice(&row.depth.to_le_bytes());
+    bytes[4..6].copy_from_slice(&row.position.to_le_bytes());
+    bytes[6] = (text.len() % 256) as u8;
+    bytes[7] = (default.len() % 256) as u8;
+    bytes[8..10].copy_from_slice(&start.to_le_bytes());
+    bytes[10..18].copy_from_slice(&row.size.to_le_bytes());
+    bytes[18..26].copy_from_slice(&row.precision.to_le_bytes());
+    bytes[26..].copy_from_slice(&row.scale.to_le_bytes());
+    bytes
 }
 
 // A row at its place in memory, and its strings, which lie from `start` on, apart.
@@ -106,37 +46,24 @@ fn write_row(mem: &mut [u8], at: usize, row: Entry, start: u16, text: &[u8], def
     copy(mem, at, &bytes);
 }
 
-// n and by together, at most the largest number.
-fn more(n: usize, by: usize) -> usize
-    ensures { result ≡ min (n + by) most }
-{
-    if by <= 18446744073709551615 - n {
-        n + by
-    } else {
-        18446744073709551615
-    }
-}
-
 // One row more, and the n bytes of its strings.
+#[tactic(auto, unfolding(crate::specs::Memory::counted))]
 fn count(counts: Counts, n: usize) -> Counts
     ensures { result ≡ counted counts n }
 {
-    let rows = more(counts.rows, 1);
-    let bytes = more(counts.string_bytes, n);
+    let rows = counts.rows.saturating_add(1);
+    let bytes = counts.string_bytes.saturating_add(n);
     Counts::new(counts.declarations, rows, bytes)
 }
 
 // Is there room for one row more, and the n bytes of its strings?
+#[tactic(auto, unfolding(crate::specs::Memory::has_room))]
 fn has_room(counts: Counts, n: usize) -> bool
     ensures { result ≡ has_room counts n }
 {
-    if Counts::ROWS <= counts.rows {
-        return false;
-    }
-    if Counts::STRING_BYTES < n {
-        return false;
-    }
-    counts.string_bytes <= Counts::STRING_BYTES - n
+    counts.rows < Counts::ROWS
+        && n <= Counts::STRING_BYTES
+        && counts.string_bytes <= Counts::STRING_BYTES - n
 }
 
 // The row behind those that are counted, and its strings behind theirs.
@@ -163,13 +90,11 @@ pub fn push_both(mem: &mut [u8], counts: Counts, row: Entry, text: &[u8], defaul
     ensures { (result ≡ counted counts (length (strings_of (with_default row text.now default.now))))
         × (mem.new ≡ pushed mem.old counts (with_default row text.now default.now)) }
 {
-    let n = more(text.len(), default.len());
-    let next = count(counts, n);
-    if !has_room(counts, n) {
-        return next;
+    let n = text.len().saturating_add(default.len());
+    if has_room(counts, n) {
+        write(mem, counts, row, text, default);
     }
-    write(mem, counts, row, text, default);
-    next
+    count(counts, n)
 }
 
 // The same of a row without a default.
@@ -177,7 +102,7 @@ pub fn push(mem: &mut [u8], counts: Counts, row: Entry, text: &[u8]) -> Counts
     ensures { (result ≡ counted counts (length text.now))
         × (mem.new ≡ pushed mem.old counts (row_of row text.now)) }
 {
-    push_both(mem, counts, row, text, &text[0..0])
+    push_both(mem, counts, row, text, &[])
 }
 
 // The n rows of `from` from row `start` on, pushed one after the other.
@@ -187,13 +112,9 @@ pub fn push_rows(mem: &mut [u8], counts: Counts, from: &[u8], start: usize, n: u
         × (mem.new ≡ pushed_all mem.old counts (rows_from «from».now n start)) }
 {
     let mut sum = counts;
-    let mut i = 0;
-    while i < n {
-        let row = read_row(from, start + i);
-        let text = string_of(from, start + i);
-        let default = default_of(from, start + i);
-        sum = push_both(mem, sum, row, text, default);
-        i += 1;
+    for i in start..start + n {
+        let row = read_row(from, i);
+        sum = push_both(mem, sum, row, string_of(from, i), default_of(from, i));
     }
     sum
 }
@@ -203,8 +124,6 @@ pub fn declare(mem: &mut [u8], place: usize, n: usize)
     requires { (place < declaration_limit) × (n < 65536) }
     ensures { mem.new ≡ declared mem.old place n }
 {
-    let rows = two(n as u16);
-    let count = two((place + 1) as u16);
-    copy(mem, 2 + 2 * place, &rows);
-    copy(mem, 0, &count);
+    copy(mem, 2 + 2 * place, &(n as u16).to_le_bytes());
+    copy(mem, 0, &(place as u16 + 1).to_le_bytes());
 }

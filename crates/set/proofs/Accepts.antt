@@ -1,6 +1,6 @@
 -- One declaration more, with 47: its defaults are asked behind the tests of join, in the memory that holds it.
 -- Assumes nothing.
-use Rattle.std.specs.Prelude.{Ok, Err, Result}
+use Rattle.std.specs.Prelude.{Ok, Err}
 use mathlib.Core.Path.{◌≡◌, refl, sym, ap, ap₂, ◌∙◌}
 use mathlib.Core.Bool.{Bool, true, false, cond}
 use mathlib.Core.List.{List, [], ◌∷◌, ◌++◌}
@@ -21,9 +21,7 @@ use Rattle.row.specs.Sets.{flat, encode, decode, count_in, rows_from, Within}
 use Rattle.row.specs.Memory.{counts_in, set_counts}
 use Rattle.row.proofs.Laws.{decode_encode, count_encode, length_encode, rows_encode}
 use Rattle.resolve.specs.Rules.{some, is_declaration}
-use Rattle.resolve.specs.Resolve.{fault_in}
-use Rattle.resolve.specs.declared.Resolution.{Resolution}
-use Rattle.resolve.specs.declared.Resolution.TheVariants.{Resolved, Faulty}
+use Rattle.resolve.specs.Resolve.{Resolution, fault_in}
 use Rattle.fits.specs.Types.{has_default}
 use Rattle.fits.specs.Misfits.{misfit_in}
 use Rattle.fits.proofs.MisfitLaws.{none_fit}
@@ -34,6 +32,7 @@ use Rattle.set.specs.Calls.{memory_of}
 use Rattle.set.specs.Steps.{joined, Drafted, IsDraft, Ended}
 use Rattle.set.proofs.Places.{is_good, is_count}
 use Rattle.set.proofs.Appends.{ended_no, ended_done, ended_as, ended_by, told_no, told_done, flat_more, rows_more, places_are, rows_are}
+use Rattle.answer.specs.Answers.{Answer}
 
 -- ---- what becomes of a set
 
@@ -54,14 +53,14 @@ module _ (ds : List (List Row)) (rows : List Row) where
           ≡ next (cond a (refuse TooManyRows (length ds) 0) (cond b (refuse TooManyStringBytes (length ds) 0) (on_resolved f (length ds) (becomes (ds ++ (rows ∷ [])))))) (λ longer. on_resolved g (length ds) (becomes longer))
       go true b f g = refl
       go false true f g = refl
-      go false false (Faulty x) g = refl
-      go false false Resolved g = refl
+      go false false (Err x) g = refl
+      go false false (Ok _) g = refl
 
   -- a declaration that joined
   record Joined (d : List (List Row)) : Type 0 where
     fit : length (flat ds) + length rows ≤ row_limit
     room : length (texts (flat ds)) + length (texts rows) ≤ string_limit
-    resolved : fault_in (flat ds) rows ≡ Resolved
+    resolved : fault_in (flat ds) rows ≡ Ok tt
     is : d ≡ ds ++ (rows ∷ [])
 
   joins : (d : List (List Row)) → joined ds rows ≡ becomes d → Joined d
@@ -72,25 +71,25 @@ module _ (ds : List (List Row)) (rows : List Row) where
           → cond a (refuse TooManyRows (length ds) 0) (cond b (refuse TooManyStringBytes (length ds) 0) (on_resolved f (length ds) (becomes (ds ++ (rows ∷ []))))) ≡ becomes d → Joined d
       go true b f p q r x = let z : ◌≡◌ {A = ℕ} 0 1 = cc in absurd (omega arith)
       go false true f p q r x = let z : ◌≡◌ {A = ℕ} 0 1 = cc in absurd (omega arith)
-      go false false (Faulty y) p q r x = let z : ◌≡◌ {A = ℕ} 0 1 = cc in absurd (omega arith)
-      go false false Resolved p q r x = record { fit = ltb-false row_limit count p; room = ltb-false string_limit bytes q; resolved = r; is = cc }
+      go false false (Err y) p q r x = let z : ◌≡◌ {A = ℕ} 0 1 = cc in absurd (omega arith)
+      go false false (Ok _) p q r x = record { fit = ltb-false row_limit count p; room = ltb-false string_limit bytes q; resolved = r; is = cc }
 
   -- and one that was accepted
   record Accepted (d : List (List Row)) : Type 0 where
     joins : Joined d
-    fitting : misfit_in (flat ds ++ rows) rows ≡ Resolved
+    fitting : misfit_in (flat ds ++ rows) rows ≡ Ok tt
 
   accepted : (d : List (List Row)) → append ds rows ≡ becomes d → Accepted d
   accepted d e = go (joined ds rows) (misfit_in (flat ds ++ rows) rows) refl refl (sym append_joined ∙ e)
     where
       go : (x : Result) (f : Resolution) → joined ds rows ≡ x → misfit_in (flat ds ++ rows) rows ≡ f → next x (λ longer. on_resolved f (length ds) (becomes longer)) ≡ becomes d → Accepted d
       go (refuses r) f p q x = let z : ◌≡◌ {A = ℕ} 0 1 = cc in absurd (omega arith)
-      go (becomes l) (Faulty y) p q x = let z : ◌≡◌ {A = ℕ} 0 1 = cc in absurd (omega arith)
-      go (becomes l) Resolved p q x = record { joins = joins d (p ∙ x); fitting = q }
+      go (becomes l) (Err y) p q x = let z : ◌≡◌ {A = ℕ} 0 1 = cc in absurd (omega arith)
+      go (becomes l) (Ok _) p q x = record { joins = joins d (p ∙ x); fitting = q }
 
 -- ---- the tests of append: n and bytes stand for rows in `from`, and join answered a and left m' of m
 
-module _ (m «from» : List ℕ) (start n bytes : ℕ) (a : Result Counts Refusal) (m' : List ℕ) (did : (rows : List Row) → Drafted «from» start n bytes rows → Ended m m' a (joined (decode m) rows)) where
+module _ (m «from» : List ℕ) (start n bytes : ℕ) (a : Answer Counts) (m' : List ℕ) (did : (rows : List Row) → Drafted «from» start n bytes rows → Ended m m' a (joined (decode m) rows)) where
   pub append_refused : {r : Refusal} → a ≡ Err r → (rows : List Row) → Drafted «from» start n bytes rows → Ended m' m' a (append (decode m) rows)
   append_refused {r} g rows d = ended_by (sym g) (ended_no m' r (append_joined (decode m) rows ∙ rw (told_no (joined (decode m) rows) (did rows d).answer g)))
 
@@ -143,11 +142,11 @@ module _ (m «from» : List ℕ) (start n bytes : ℕ) (a : Result Counts Refusa
             let h : f ≡ misfit_in (flat (decode m) ++ rows) rows = found ∙ ap₂ misfit_in (all_rows rows d) (own_rows rows d) in
             append_joined (decode m) rows ∙ rw ((told rows d).1, ← h)
 
-        pub append_misfit : {x : Fault} → f ≡ Faulty x → (rows : List Row) → Drafted «from» start n bytes rows → {r : Refusal} → r ≡ placed x c.declarations
+        pub append_misfit : {x : Fault} → f ≡ Err x → (rows : List Row) → Drafted «from» start n bytes rows → {r : Refusal} → r ≡ placed x c.declarations
             → Ended m' m' (Err r) (append (decode m) rows)
         append_misfit b rows d h = rw h (ended_no m' _ (tested rows d ∙ rw (b, places_are m w c e)))
 
-        pub append_done : f ≡ Resolved → (rows : List Row) → Drafted «from» start n bytes rows → Ended m' m' (Ok k) (append (decode m) rows)
+        pub append_done : f ≡ Ok tt → (rows : List Row) → Drafted «from» start n bytes rows → Ended m' m' (Ok k) (append (decode m) rows)
         append_done b rows d = ended_done m' (told rows d).0 (tested rows d ∙ rw b) (told rows d).2 (holds rows d ∙ ap encode (sym (made rows d).is))
 
 -- ---- memory behind a declaration that was accepted
@@ -157,7 +156,7 @@ pub record Stepped (o : List ℕ) (rows : List Row) (o' : List ℕ) : Type 0 whe
   pub well : well_formed o' ≡ true
   pub more : count_in o' ≡ count_in o + 1
 
-pub stepped : {o o' : List ℕ} {rows : List Row} {a : Result Counts Refusal} {c : Counts} → well_formed o ≡ true → count_in o < declaration_limit → is_declaration rows ≡ true
+pub stepped : {o o' : List ℕ} {rows : List Row} {a : Answer Counts} {c : Counts} → well_formed o ≡ true → count_in o < declaration_limit → is_declaration rows ≡ true
     → Ended o' o' a (append (decode o) rows) → a ≡ Ok c → Stepped o rows o'
 unfolding memory_of
 stepped {o} {o'} {rows} {a} {c} w l g e f =
@@ -189,6 +188,6 @@ module _ (draft : List ℕ) (n bytes : ℕ) {b : Bool} (asked : n ≤ row_limit 
           let k : rows_from draft n 0 ≡ rows = (d.fits h (omega (arith, d.strings, j.room))).1 in
           rw (none_fit (flat ds ++ rows) rows (ap (some has_default) (sym k) ∙ sym (asked h) ∙ none))
 
-  pub joined_last : {m m' : List ℕ} {r : Result Counts Refusal} (ds : List (List Row)) → ((rows : List Row) → Drafted draft 0 n bytes rows → Ended m m' r (joined ds rows))
+  pub joined_last : {m m' : List ℕ} {r : Answer Counts} (ds : List (List Row)) → ((rows : List Row) → Drafted draft 0 n bytes rows → Ended m m' r (joined ds rows))
       → (rows : List Row) → Drafted draft 0 n bytes rows → Ended m m' r (append ds rows)
   joined_last ds did rows d = ended_as (join_alone ds rows d) (did rows d)

@@ -1,6 +1,6 @@
 -- One declaration more, but for 47: its rows written behind those of a set, and the four tests before that.
 -- Assumes nothing.
-use Rattle.std.specs.Prelude.{Ok, Err, Result}
+use Rattle.std.specs.Prelude.{Ok, Err}
 use mathlib.Core.Path.{◌≡◌, refl, sym, ap, ap₂, ◌∙◌}
 use mathlib.Core.Bool.{true, false}
 use mathlib.Core.List.{List, [], ◌∷◌, ◌++◌, append-nil}
@@ -9,7 +9,7 @@ use native.Mathlib.Omega.{arith}
 use lib.Dec.{ltb}
 use lib.ListN.{length, length-append}
 use borrow.Author.Tests.{lt-ltb, le-ltb}
-use Rattle.answer.specs.Answers.{numbers_of, of_counts}
+use Rattle.answer.specs.Answers.{numbers_of, of_counts, Answer}
 use Rattle.answer.proofs.Laws.{refusal_one, counts_one, never_both}
 use Rattle.answer.specs.declared.counts.Counts.{Counts}
 use Rattle.answer.specs.declared.refusal.Why.TheVariants.{TooManyRows, TooManyStringBytes}
@@ -24,10 +24,8 @@ use Rattle.row.specs.Memory.{counts_in, set_counts, counted_all, pushed_all, dec
 use Rattle.row.proofs.RowLaws.{texts_append}
 use Rattle.row.proofs.SetLaws.{flat_append}
 use Rattle.row.proofs.Laws.{counted_small, append_encode}
-use Rattle.resolve.specs.Resolve.{fault_in}
+use Rattle.resolve.specs.Resolve.{Resolution, fault_in}
 use Rattle.formed.specs.WellFormed.{well_formed}
-use Rattle.resolve.specs.declared.Resolution.{Resolution}
-use Rattle.resolve.specs.declared.Resolution.TheVariants.{Resolved, Faulty}
 use Rattle.resolve.proofs.MemoryLaws.{length_rows}
 use Rattle.formed.proofs.Laws.{more_within}
 use Rattle.set.specs.Lists.{Result, becomes, refuses, on_resolved}
@@ -45,21 +43,21 @@ pub ended_done : (m : List ℕ) (ds : List (List Row)) {x : Result} → x ≡ be
 unfolding answer_of memory_of
 ended_done m ds e p q = record { answer = ap of_counts p ∙ sym (ap answer_of e); memory = rw (e, q) }
 
-pub ended_as : {m m' : List ℕ} {r : Result Counts Refusal} {x y : Result} → x ≡ y → Ended m m' r y → Ended m m' r x
+pub ended_as : {m m' : List ℕ} {r : Answer Counts} {x y : Result} → x ≡ y → Ended m m' r y → Ended m m' r x
 ended_as e d = record { answer = d.answer ∙ ap answer_of (sym e); memory = d.memory ∙ ap (memory_of _) (sym e) }
 
 -- the same of an equal answer
-pub ended_by : {m m' : List ℕ} {a b : Result Counts Refusal} {x : Result} → a ≡ b → Ended m m' a x → Ended m m' b x
+pub ended_by : {m m' : List ℕ} {a b : Answer Counts} {x : Result} → a ≡ b → Ended m m' a x → Ended m m' b x
 ended_by e d = record { answer = ap numbers_of (sym e) ∙ d.answer; memory = d.memory }
 
 -- ---- what an answer tells
 
-pub told_no : (x : Result) {a : Result Counts Refusal} {r : Refusal} → numbers_of a ≡ answer_of x → a ≡ Err r → x ≡ refuses r
+pub told_no : (x : Result) {a : Answer Counts} {r : Refusal} → numbers_of a ≡ answer_of x → a ≡ Err r → x ≡ refuses r
 unfolding answer_of
 told_no (becomes d) {r = r} p q = absurd (never_both r _ _ _ (sym (ap numbers_of q) ∙ p))
 told_no (refuses s) {r = r} p q = ap refuses (refusal_one s r (sym p ∙ ap numbers_of q))
 
-pub told_done : (x : Result) {a : Result Counts Refusal} {c : Counts} → numbers_of a ≡ answer_of x → a ≡ Ok c → (d : List (List Row)) × (x ≡ becomes d) × (c ≡ set_counts d)
+pub told_done : (x : Result) {a : Answer Counts} {c : Counts} → numbers_of a ≡ answer_of x → a ≡ Ok c → (d : List (List Row)) × (x ≡ becomes d) × (c ≡ set_counts d)
 unfolding answer_of
 told_done (becomes d) {c = c} p q = (d, refl, counts_one c (set_counts d) (sym (ap numbers_of q) ∙ p))
 told_done (refuses s) p q = absurd (never_both s _ _ _ (sym p ∙ ap numbers_of q))
@@ -120,7 +118,7 @@ module _ (m : List ℕ) (w : well_formed m ≡ true) (c : Counts) (e : c ≡ cou
   bytes_most = omega (arith, bytes_are, (is_good m w).strings)
 
   module _ («from» : List ℕ) (start n bytes : ℕ) where
-    pub join_rows : row_limit - c.rows < n → (rows : List Row) → Drafted «from» start n bytes rows → {r : Result Counts Refusal}
+    pub join_rows : row_limit - c.rows < n → (rows : List Row) → Drafted «from» start n bytes rows → {r : Answer Counts}
         → r ≡ Err (record { why = TooManyRows; place = c.declarations; at = 0 }) → Ended m m r (joined (decode m) rows)
     unfolding joined
     join_rows h rows d g =
@@ -131,7 +129,7 @@ module _ (m : List ℕ) (w : well_formed m ≡ true) (c : Counts) (e : c ≡ cou
       rows_pass : (rows : List Row) → Drafted «from» start n bytes rows → ltb row_limit (length (flat (decode m)) + length rows) ≡ false
       rows_pass rows d = le-ltb row_limit (length (flat (decode m)) + length rows) (omega (arith, rows_are, rows_most, d.counted))
 
-      pub join_strings : string_limit - c.string_bytes < bytes → (rows : List Row) → Drafted «from» start n bytes rows → {r : Result Counts Refusal}
+      pub join_strings : string_limit - c.string_bytes < bytes → (rows : List Row) → Drafted «from» start n bytes rows → {r : Answer Counts}
           → r ≡ Err (record { why = TooManyStringBytes; place = c.declarations; at = 0 }) → Ended m m r (joined (decode m) rows)
       unfolding joined
       join_strings h rows d g =
@@ -160,11 +158,11 @@ module _ (m : List ℕ) (w : well_formed m ≡ true) (c : Counts) (e : c ≡ cou
           unfolding joined
           tested rows d = rw (rows_pass rows d, strings_pass rows d, ← faults rows d)
 
-          pub join_fault : {x : Fault} → f ≡ Faulty x → (rows : List Row) → Drafted «from» start n bytes rows → {r : Refusal} → r ≡ placed x c.declarations
+          pub join_fault : {x : Fault} → f ≡ Err x → (rows : List Row) → Drafted «from» start n bytes rows → {r : Refusal} → r ≡ placed x c.declarations
               → Ended m m (Err r) (joined (decode m) rows)
           join_fault b rows d g = rw g (ended_no m _ (tested rows d ∙ rw (b, places_are)))
 
-          module _ (room : count_in m < declaration_limit) (b : f ≡ Resolved) where
+          module _ (room : count_in m < declaration_limit) (b : f ≡ Ok tt) where
             more_is : (rows : List Row) → Drafted «from» start n bytes rows → Within (decode m ++ (rows ∷ []))
             more_is rows d =
                 more_within (decode m) rows (is_good m w) (omega (arith, is_count m w)) (omega (arith, rows_are, rows_most, d.counted)) (omega (arith, bytes_are, bytes_most, d.strings)) d.kept

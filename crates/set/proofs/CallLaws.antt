@@ -1,6 +1,6 @@
 -- The calls, test by test.
 -- Assumes nothing.
-use Rattle.std.specs.Prelude.{Ok, Err, Result}
+use Rattle.std.specs.Prelude.{Ok, Err}
 use mathlib.Core.Path.{◌≡◌, sym, ap, ◌∙◌}
 use mathlib.Core.Bool.{true, false}
 use mathlib.Core.List.{List, [], ◌∷◌, ◌++◌, append-nil}
@@ -8,7 +8,7 @@ use Prim.Native.Nat.{ℕ, ◌+◌, ◌<◌, ◌≤◌}
 use native.Mathlib.Omega.{arith}
 use lib.ListN.{length, take, drop, length-take, length-replicate, drop_of_length-le}
 use borrow.Author.Tests.{lt-ltb, le-ltb, eq-eqb, ne_eqb}
-use Rattle.answer.specs.Answers.{numbers_of}
+use Rattle.answer.specs.Answers.{numbers_of, Answer}
 use Rattle.answer.specs.declared.counts.Counts.{Counts}
 use Rattle.answer.specs.declared.refusal.Why.TheVariants.{NotWellFormed, NoSuchPlace, TooManyDeclarations}
 use Rattle.answer.specs.declared.refusal.Refusal.{Refusal}
@@ -36,17 +36,17 @@ use Rattle.set.proofs.Drafts.{read_not, read_rows, is_draft}
 use Rattle.set.proofs.Ends.{append_last}
 
 -- what a public call promises, of what its parts did
-pub both : {m m' : List ℕ} {r : Result Counts Refusal} {x : Result} → Ended m m' r x → (numbers_of r ≡ answer_of x) × (m' ≡ memory_of m x)
+pub both : {m m' : List ℕ} {r : Answer Counts} {x : Result} → Ended m m' r x → (numbers_of r ≡ answer_of x) × (m' ≡ memory_of m x)
 both d = (d.answer, d.memory)
 
 -- of a refusal
-no_both : (m : List ℕ) {r : Result Counts Refusal} {s : Refusal} {x : Result} → r ≡ Err s → x ≡ refuses s → (numbers_of r ≡ answer_of x) × (m ≡ memory_of m x)
+no_both : (m : List ℕ) {r : Answer Counts} {s : Refusal} {x : Result} → r ≡ Err s → x ≡ refuses s → (numbers_of r ≡ answer_of x) × (m ≡ memory_of m x)
 no_both m {s = s} g e = let d = ended_no m s e in (ap numbers_of g ∙ d.answer, d.memory)
 
 -- ---- open
 
 module _ (m : List ℕ) where
-  pub open_not : (length m ≡ layout_length → ⊥) → {r : Result Counts Refusal} → r ≡ Err (record { why = NotWellFormed; place = 0; at = 0 }) → (numbers_of r ≡ answer_of (opened m)) × (m ≡ memory_of m (opened m))
+  pub open_not : (length m ≡ layout_length → ⊥) → {r : Answer Counts} → r ≡ Err (record { why = NotWellFormed; place = 0; at = 0 }) → (numbers_of r ≡ answer_of (opened m)) × (m ≡ memory_of m (opened m))
   unfolding opened
   open_not h g = no_both m g (rw (ne_eqb (length m) layout_length h))
 
@@ -73,7 +73,7 @@ stored m o e =
     store_fits m 0 o k ∙ ap (λ (x : List ℕ). o ++ x) (drop_of_length-le m l) ∙ append-nil o
 
 -- what became of scratch memory, for which the answer is a, becomes of memory
-module _ (m out : List ℕ) {a : Result Counts Refusal} where
+module _ (m out : List ℕ) {a : Answer Counts} where
   pub settle_no : (r : Refusal) → a ≡ Err r → (x : Result) → Ended out out a x → Ended m m (Err r) x
   settle_no r g x d = ended_no m r (told_no x d.answer g)
 
@@ -92,7 +92,7 @@ module _ (m : List ℕ) (w : well_formed m ≡ true) (z : List ℕ) (empty : z �
   copied_asks l = (ap well_formed copy_is ∙ w, omega (arith, ap count_in copy_is))
 
   -- rows were appended to it
-  pub copied_settled : (out₁ : List ℕ) {draft : List ℕ} {n bytes : ℕ} {a r : Result Counts Refusal} {m' : List ℕ} → ((rows : List Row) → Drafted draft 0 n bytes rows → Ended out₁ out₁ a (append (decode out) rows))
+  pub copied_settled : (out₁ : List ℕ) {draft : List ℕ} {n bytes : ℕ} {a r : Answer Counts} {m' : List ℕ} → ((rows : List Row) → Drafted draft 0 n bytes rows → Ended out₁ out₁ a (append (decode out) rows))
       → ((x : Result) → Ended out₁ out₁ a x → Ended m m' r x)
       → (rows : List Row) → Drafted draft 0 n bytes rows → Ended m m' r (append (decode m) rows)
   copied_settled out₁ did settles rows d = ended_as (ap (λ (x : List ℕ). append (decode x) rows) (sym copy_is)) (settles _ (did rows d))
@@ -119,7 +119,7 @@ module _ (m : List ℕ) (w : well_formed m ≡ true) (place : ℕ) (l : place < 
     pub draft_asks : IsDraft draft 0 n bytes → (well_formed out ≡ true) × (count_in out < declaration_limit) × IsDraft draft 0 n bytes
     draft_asks d = (before_well, before_few, d)
 
-    module _ (a : Result Counts Refusal) (out₁ : List ℕ) (did : (rows : List Row) → Drafted draft 0 n bytes rows → Ended out₁ out₁ a (append (decode out) rows)) where
+    module _ (a : Answer Counts) (out₁ : List ℕ) (did : (rows : List Row) → Drafted draft 0 n bytes rows → Ended out₁ out₁ a (append (decode out) rows)) where
       opens : (rows : List Row) → append_all (take place (decode m)) (rows ∷ drop (place + 1) (decode m)) ≡ next (append (decode out) rows) (λ longer. append_all longer (drop (place + 1) (decode m)))
       unfolding append_all
       opens rows = rw before_decode
@@ -140,7 +140,7 @@ module _ (m : List ℕ) (w : well_formed m ≡ true) (place : ℕ) (l : place < 
         behind : (rows : List Row) → Drafted draft 0 n bytes rows → append_all (take place (decode m)) (rows ∷ drop (place + 1) (decode m)) ≡ append_all (decode out₁) (drop (place + 1) (decode m))
         behind rows d = opens rows ∙ rw (step rows d).ok
 
-        pub inside_settled : (out₂ : List ℕ) {y r : Result Counts Refusal} {m' : List ℕ} → Ended out₂ out₂ y (append_all (decode out₁) (drop (place + 1) (decode m)))
+        pub inside_settled : (out₂ : List ℕ) {y r : Answer Counts} {m' : List ℕ} → Ended out₂ out₂ y (append_all (decode out₁) (drop (place + 1) (decode m)))
             → ((x : Result) → Ended out₂ out₂ y x → Ended m m' r x)
             → (rows : List Row) → Drafted draft 0 n bytes rows → Ended m m' r (append_all (take place (decode m)) (rows ∷ drop (place + 1) (decode m)))
         inside_settled out₂ rest settles rows d = ended_as (behind rows d) (settles _ rest)
@@ -148,21 +148,21 @@ module _ (m : List ℕ) (w : well_formed m ≡ true) (place : ℕ) (l : place < 
 -- ---- put
 
 module _ (m : List ℕ) (w : well_formed m ≡ true) (place : ℕ) {n : ℕ} (e : n ≡ count_in m) where
-  pub last_rows : n ≤ place → {d : List ℕ} {k bytes : ℕ} {r : Result Counts Refusal} {m' : List ℕ} → ((rows : List Row) → Drafted d 0 k bytes rows → Ended m m' r (append (decode m) rows))
+  pub last_rows : n ≤ place → {d : List ℕ} {k bytes : ℕ} {r : Answer Counts} {m' : List ℕ} → ((rows : List Row) → Drafted d 0 k bytes rows → Ended m m' r (append (decode m) rows))
       → (rows : List Row) → Drafted d 0 k bytes rows → Ended m m' r (append_all (take place (decode m)) (rows ∷ drop (place + 1) (decode m)))
   last_rows h end rows d = ended_as (append_last (decode m) place rows (omega (arith, is_count m w))) (end rows d)
 
 module _ (m : List ℕ) (place : ℕ) (t : List ℕ) where
-  pub put_not : well_formed m ≡ false → {r : Result Counts Refusal} → r ≡ Err (record { why = NotWellFormed; place = place; at = 0 }) → (numbers_of r ≡ answer_of (put m place t)) × (m ≡ memory_of m (put m place t))
+  pub put_not : well_formed m ≡ false → {r : Answer Counts} → r ≡ Err (record { why = NotWellFormed; place = place; at = 0 }) → (numbers_of r ≡ answer_of (put m place t)) × (m ≡ memory_of m (put m place t))
   put_not w g = no_both m g (put_unformed m w place t)
 
   module _ (w : well_formed m ≡ true) (n : ℕ) (e : n ≡ count_in m) where
-    pub put_nowhere : n < place → {r : Result Counts Refusal} → r ≡ Err (record { why = NoSuchPlace; place = place; at = 0 }) → (numbers_of r ≡ answer_of (put m place t)) × (m ≡ memory_of m (put m place t))
+    pub put_nowhere : n < place → {r : Answer Counts} → r ≡ Err (record { why = NoSuchPlace; place = place; at = 0 }) → (numbers_of r ≡ answer_of (put m place t)) × (m ≡ memory_of m (put m place t))
     unfolding put_in
     put_nowhere h g = no_both m g (put_formed m w place t ∙ rw (← is_count m w, ← e, lt-ltb n place h))
 
     module _ (l : place ≤ n) where
-      pub put_many : declaration_limit ≤ place → {r : Result Counts Refusal} → r ≡ Err (record { why = TooManyDeclarations; place = declaration_limit; at = 0 })
+      pub put_many : declaration_limit ≤ place → {r : Answer Counts} → r ≡ Err (record { why = TooManyDeclarations; place = declaration_limit; at = 0 })
           → (numbers_of r ≡ answer_of (put m place t)) × (m ≡ memory_of m (put m place t))
       unfolding put_in
       put_many h g =
@@ -183,7 +183,7 @@ module _ (m : List ℕ) (place : ℕ) (t : List ℕ) where
           pub put_asks : (c : Counts) → walked ≡ Ok c → (well_formed m ≡ true) × (place ≤ count_in m) × (place < declaration_limit) × IsDraft d 0 c.rows c.string_bytes
           put_asks c h = (w, omega arith, few, is_draft (declared t) did h)
 
-          pub put_read : (c : Counts) → walked ≡ Ok c → {r : Result Counts Refusal} {m' : List ℕ}
+          pub put_read : (c : Counts) → walked ≡ Ok c → {r : Answer Counts} {m' : List ℕ}
               → ((rows : List Row) → Drafted d 0 c.rows c.string_bytes rows → Ended m m' r (append_all (take place (decode m)) (rows ∷ drop (place + 1) (decode m))))
               → (numbers_of r ≡ answer_of (put m place t)) × (m' ≡ memory_of m (put m place t))
           put_read c h end =

@@ -1,6 +1,6 @@
 -- The full name of a row and where it lies, test by test.
 -- Assumes nothing.
-use Rattle.std.specs.Prelude.{Ok, Err, Result}
+use Rattle.std.specs.Prelude.{Ok, Err}
 use mathlib.Core.Path.{◌≡◌, refl, sym, ap, ap₂, ◌∙◌}
 use mathlib.Core.Bool.{Bool, true, false, cond}
 use mathlib.Core.List.{List, [], ◌∷◌, ◌++◌}
@@ -28,7 +28,7 @@ use Rattle.resolve.proofs.RuleLaws.{no_bytes}
 use Rattle.set.specs.Naming.{has_full_name, name_among, name_in, full_name_in, start_among, start_in, full_name_start, numbers_of_naming, naming_of}
 use Rattle.set.specs.Steps.{row_name, row_name_start, refused_name}
 use Rattle.set.proofs.Places.{Place, is_encoded, is_within, is_long, is_count, is_good, is_before, place_of}
-use Rattle.answer.specs.declared.refusal.Refusal.{Refusal}
+use Rattle.answer.specs.Answers.{Answer}
 
 -- ---- lists
 
@@ -233,12 +233,12 @@ module _ (m : List ℕ) (place row : ℕ) where
   unfolding full_name_in full_name_start
   full_none p w = rw w (refl, refl)
 
-  pub naming_not : well_formed m ≡ false → {r : Result ℕ Refusal} → r ≡ refused_name NotWellFormed place → numbers_of_naming r ≡ naming_of m place row
+  pub naming_not : well_formed m ≡ false → {r : Answer ℕ} → r ≡ refused_name NotWellFormed place → numbers_of_naming r ≡ naming_of m place row
   unfolding naming_of
   naming_not w g = rw w (ap numbers_of_naming g)
 
   module _ (w : well_formed m ≡ true) (x : List ℕ) (e : x ≡ name_in (decode m) place row) where
-    pub naming_none : length x ≡ 0 → {r : Result ℕ Refusal} → r ≡ refused_name NoSuchPlace place → numbers_of_naming r ≡ naming_of m place row
+    pub naming_none : length x ≡ 0 → {r : Answer ℕ} → r ≡ refused_name NoSuchPlace place → numbers_of_naming r ≡ naming_of m place row
     unfolding naming_of
     naming_none h g = rw (w, ← e, ← no_bytes x, eq-eqb (length x) 0 h) (ap numbers_of_naming g)
 
@@ -247,7 +247,7 @@ module _ (m : List ℕ) (place row : ℕ) where
     naming_done h = rw (w, ← e, ← no_bytes x, ne_eqb (length x) 0 h)
 
 -- the numbers tell the answer
-pub naming_one : (a b : Result ℕ Refusal) → numbers_of_naming a ≡ numbers_of_naming b → a ≡ b
+pub naming_one : (a b : Answer ℕ) → numbers_of_naming a ≡ numbers_of_naming b → a ≡ b
 naming_one (Ok n) (Ok k) e = ap Ok (first e)
 naming_one (Ok n) (Err s) e = absurd (never_both s _ _ _ (sym e))
 naming_one (Err r) (Ok k) e = absurd (never_both r _ _ _ e)

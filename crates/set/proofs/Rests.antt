@@ -1,6 +1,6 @@
 -- The declarations before a place, copied, and those behind it, appended in turn.
 -- Assumes nothing.
-use Rattle.std.specs.Prelude.{Ok, Err, Result}
+use Rattle.std.specs.Prelude.{Ok, Err}
 use mathlib.Core.Path.{◌≡◌, refl, sym, ap, ap₂, ◌∙◌}
 use mathlib.Core.Bool.{true}
 use mathlib.Core.List.{List, [], ◌∷◌, ◌++◌}
@@ -22,6 +22,7 @@ use Rattle.set.specs.Steps.{counted_more, pushed_more, Drafted, IsDraft, Ended}
 use Rattle.set.proofs.Places.{Place, is_encoded, is_good, is_long, is_count, is_counts, is_before, place_of}
 use Rattle.set.proofs.Appends.{push_encode, counted_encode, ended_no, ended_done, told_no}
 use Rattle.set.proofs.Accepts.{Stepped, stepped}
+use Rattle.answer.specs.Answers.{Answer}
 
 -- ---- the declarations before a place: out holds the first i of m, and c counts them
 
@@ -124,7 +125,7 @@ module _ (m : List ℕ) (w : well_formed m ≡ true) (i : ℕ) (l : i < count_in
     pub rest_asks : (well_formed out ≡ true) × (count_in out < declaration_limit) × IsDraft m start n (b - a)
     rest_asks = (z.well, omega (arith, z.count, place_few m w i l), record { rows = (here m w i l).rows; drafted = drafted })
 
-    module _ (out' : List ℕ) (r : Result Counts Refusal) (did : (rows : List Row) → Drafted m start n (b - a) rows → Ended out' out' r (append (decode out) rows)) where
+    module _ (out' : List ℕ) (r : Answer Counts) (did : (rows : List Row) → Drafted m start n (b - a) rows → Ended out' out' r (append (decode out) rows)) where
       was : Ended out' out' r (append (decode out) (here m w i l).rows)
       was = did (here m w i l).rows drafted
 

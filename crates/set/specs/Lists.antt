@@ -1,6 +1,6 @@
 -- What may become of a set, a list of declarations' rows: a declaration put at a place, or a refusal.
 -- Assumes nothing.
-use Rattle.std.specs.Prelude.{ℕ, ◌+◌, cond, List, [], ◌∷◌, ◌++◌, ltb, length, take, drop}
+use Rattle.std.specs.Prelude.{ℕ, ◌+◌, cond, List, [], ◌∷◌, ◌++◌, ltb, length, take, drop, Ok, Err}
 use Rattle.answer.specs.declared.refusal.Why.{Why}
 use Rattle.answer.specs.declared.refusal.Why.TheVariants.{NoSuchPlace, TooManyDeclarations, TooManyRows, TooManyStringBytes}
 use Rattle.answer.specs.declared.refusal.Refusal.{Refusal}
@@ -8,10 +8,8 @@ use Rattle.answer.specs.Places.{placed}
 use Rattle.row.specs.Layout.{declaration_limit, row_limit, string_limit}
 use Rattle.row.specs.Rows.{Row, texts}
 use Rattle.row.specs.Sets.{flat}
-use Rattle.resolve.specs.Resolve.{fault_in}
+use Rattle.resolve.specs.Resolve.{Resolution, fault_in}
 use Rattle.fits.specs.Misfits.{misfit_in}
-use Rattle.resolve.specs.declared.Resolution.{Resolution}
-use Rattle.resolve.specs.declared.Resolution.TheVariants.{Resolved, Faulty}
 use Rattle.schema.specs.Out.{Out, refused, read}
 use Rattle.schema.specs.Schema.{declared}
 
@@ -33,8 +31,8 @@ on_rows (refused f) place step = refuses (placed f place)
 on_rows (read rows) place step = step rows
 
 abbrev pub on_resolved : Resolution → ℕ → Result → Result
-on_resolved Resolved place accepted = accepted
-on_resolved (Faulty f) place accepted = refuses (placed f place)
+on_resolved (Ok _) place accepted = accepted
+on_resolved (Err f) place accepted = refuses (placed f place)
 
 -- one declaration more: 23 and 24 over the totals with it, then 25 and 26 in preorder, earlier declarations counted first, then 47 in preorder
 unfoldable pub append : List (List Row) → List Row → Result

@@ -1,9 +1,8 @@
 -- The full name of a row, by the place of its declaration and its number there, from 0, and where it lies in memory.
 -- Assumes nothing.
-use Rattle.std.specs.Prelude.{ℕ, zero, suc, ◌+◌, Bool, cond, ◌||◌, List, [], ◌∷◌, length, Result, Ok, Err}
+use Rattle.std.specs.Prelude.{ℕ, zero, suc, ◌+◌, Bool, cond, ◌||◌, List, [], ◌∷◌, length, Ok, Err}
 use Rattle.answer.specs.declared.numbers.Numbers.{Numbers}
-use Rattle.answer.specs.declared.refusal.Refusal.{Refusal}
-use Rattle.answer.specs.Answers.{accepted, refused, of_refusal}
+use Rattle.answer.specs.Answers.{accepted, refused, of_refusal, Answer}
 use Rattle.name.specs.Name.{is_empty}
 use Rattle.row.specs.Layout.{strings_start}
 use Rattle.row.specs.Rows.{Row, strings_of, texts}
@@ -53,7 +52,7 @@ full_name_start m place i = cond (well_formed m) (start_in strings_start (decode
 -- ---- why there is none
 
 -- 01's numbers for each case: 0 and the full name's length, or the refusal's number, place and position
-abbrev pub numbers_of_naming : Result ℕ Refusal → Numbers
+abbrev pub numbers_of_naming : Answer ℕ → Numbers
 numbers_of_naming (Ok n) = accepted n 0 0
 numbers_of_naming (Err r) = of_refusal r
 

@@ -1,11 +1,11 @@
 -- What private functions ask and promise.
 -- Assumes nothing.
-use Rattle.std.specs.Prelude.{ℕ, ◌+◌, ◌≤◌, min, ◌≡◌, true, cond, List, [], ◌∷◌, ◌++◌, ltb, length, Ok, Err, Result}
+use Rattle.std.specs.Prelude.{ℕ, ◌+◌, ◌≤◌, min, ◌≡◌, true, cond, List, [], ◌∷◌, ◌++◌, ltb, length, Ok, Err}
 use Rattle.answer.specs.declared.counts.Counts.{Counts}
 use Rattle.answer.specs.declared.refusal.Why.{Why}
 use Rattle.answer.specs.declared.refusal.Why.TheVariants.{TooManyRows, TooManyStringBytes}
 use Rattle.answer.specs.Limits.{counts_of}
-use Rattle.answer.specs.Answers.{numbers_of}
+use Rattle.answer.specs.Answers.{numbers_of, Answer}
 use Rattle.row.specs.Layout.{row_limit, string_limit, layout_length}
 use Rattle.row.specs.Rows.{Row, texts}
 use Rattle.row.specs.Sets.{flat, rows_from}
@@ -16,7 +16,6 @@ use Rattle.schema.specs.Out.{Out, refused, read, Walked}
 use Rattle.set.specs.Lists.{Result, becomes, refuse, on_resolved}
 use Rattle.set.specs.Calls.{answer_of, memory_of}
 use Rattle.set.specs.Naming.{has_full_name}
-use Rattle.answer.specs.declared.refusal.Refusal.{Refusal}
 
 -- the full name of a row of the memory, and where it begins
 unfoldable pub row_name : List ℕ → ℕ → List ℕ
@@ -26,7 +25,7 @@ unfoldable pub row_name_start : List ℕ → ℕ → ℕ
 row_name_start m i = cond (has_full_name (entry_at m i).kind) (text_place m i) 0
 
 -- there is no full name, for this reason
-abbrev pub refused_name : Why → ℕ → Result ℕ Refusal
+abbrev pub refused_name : Why → ℕ → Answer ℕ
 refused_name why place = Err (record { why = why; place = place; at = 0 })
 
 -- rows behind those that are counted, as one declaration more: the counts, and the memory
@@ -66,6 +65,6 @@ pub record Wrote (d : List ℕ) (r : Walked) (o : Out) : Type 0 where
   pub wrote : Wrote' d r o
 
 -- memory that held m holds m', and the answer is r: what became of the set is x
-pub record Ended (m m' : List ℕ) (r : Result Counts Refusal) (x : Result) : Type 0 where
+pub record Ended (m m' : List ℕ) (r : Answer Counts) (x : Result) : Type 0 where
   pub answer : numbers_of r ≡ answer_of x
   pub memory : m' ≡ memory_of m x

@@ -8,9 +8,9 @@ ghost use Rattle.formed.specs.WellFormed.{well_formed};
 ghost use Rattle.set.specs.Lists.{append};
 ghost use Rattle.set.specs.Steps.{counted_more, pushed_more, joined, Drafted, IsDraft, Ended};
 
-use answer::{Answer, Counts, Refusal, Why};
+use answer::{Answer, Counts, Fault, Refusal, Why};
 use fits::{first_misfit, has_defaults};
-use resolve::{Resolution, first_fault};
+use resolve::first_fault;
 use row::read::counts;
 use row::write::{declare, push_rows};
 
@@ -53,20 +53,20 @@ pub(crate) fn join(mem: &mut [u8], from: &[u8], start: usize, n: usize, bytes: u
     }
     let names = first_fault(mem, sum.rows, from, start, n);
     match names {
-        Resolution::Faulty(f) => Err(f.placed(place)),
-        Resolution::Resolved => Ok(push(mem, sum, from, start, n)),
+        Err(f) => Answer::Refused(f.placed(place)),
+        Ok(()) => Answer::Done(push(mem, sum, from, start, n)),
     }
 }
 
 // 47 of the last n rows, from `start` on. The check lays out large tables, so it is asked first whether there is a default.
-fn misfit(out: &[u8], start: usize, n: usize) -> Resolution
+fn misfit(out: &[u8], start: usize, n: usize) -> Result<(), Fault>
     requires { (length out.now ≡ layout_length) × (start + n ≤ row_limit) }
     ensures { result ≡ misfit_in (rows_from out.now (start + n) 0) (rows_from out.now n start) }
 {
     if has_defaults(out, start, n) {
         return first_misfit(out, start, n);
     }
-    Resolution::Resolved
+    Ok(())
 }
 
 // The same with 47, in memory that holds anything where it is refused.
@@ -82,8 +82,8 @@ pub(crate) fn append(out: &mut [u8], from: &[u8], start: usize, n: usize, bytes:
         Ok(c) => {
             let defaults = misfit(out, sum.rows, n);
             match defaults {
-                Resolution::Faulty(f) => Err(f.placed(sum.declarations)),
-                Resolution::Resolved => Ok(c),
+                Err(f) => Answer::Refused(f.placed(sum.declarations)),
+                Ok(()) => Answer::Done(c),
             }
         }
     }

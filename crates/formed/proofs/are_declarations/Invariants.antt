@@ -11,7 +11,4 @@ use Rattle.formed.proofs.DecodeLaws.{rows_left, left}
 use Rattle.formed.proofs.are_declarations.Given as goal
 
 abbrev pub invariant-loop-place : goal.invariant-loop-place
-invariant-loop-place l = (l.place ≤ l.n) × (l.start + rows_left l.mem l.place (l.n - l.place) ≤ row_limit) × (every is_declaration (decode l.mem) ≡ every is_declaration (left l.mem l.place (l.n - l.place) l.start)) × Sized l.first l.next
-
-abbrev pub decreases-loop-place : goal.decreases-loop-place
-decreases-loop-place l = l.n - l.place
+invariant-loop-place l = (l.start + rows_left l.mem l.place (l.n - l.place) ≤ row_limit) × (every is_declaration (decode l.mem) ≡ every is_declaration (left l.mem l.place (l.n - l.place) l.start)) × Sized l.first l.next

@@ -10,7 +10,4 @@ use Rattle.formed.proofs.DecodeLaws.{rows_left, left}
 use Rattle.formed.proofs.places_fit.Given as goal
 
 abbrev pub invariant-loop-place : goal.invariant-loop-place
-invariant-loop-place l = (l.place ≤ l.n) × (l.start + rows_left l.mem l.place (l.n - l.place) ≤ row_limit) × (defaults_fit [] (decode l.mem) ≡ defaults_fit (rows_from l.mem l.start 0) (left l.mem l.place (l.n - l.place) l.start))
-
-abbrev pub decreases-loop-place : goal.decreases-loop-place
-decreases-loop-place l = l.n - l.place
+invariant-loop-place l = (l.start + rows_left l.mem l.place (l.n - l.place) ≤ row_limit) × (defaults_fit [] (decode l.mem) ≡ defaults_fit (rows_from l.mem l.start 0) (left l.mem l.place (l.n - l.place) l.start))

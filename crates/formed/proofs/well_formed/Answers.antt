@@ -23,11 +23,11 @@ rows_before-rows-requires c = (formed_long _ (sym c.is_encoding.ensures ∙ c.if
 pub is_resolved-requires : goal.is_resolved-requires
 is_resolved-requires c = (formed_long _ (sym c.is_encoding.ensures ∙ c.if-not-is_encoding.false), omega (arith, c.rows_before-rows.ensures, formed_fit _ (sym c.is_encoding.ensures ∙ c.if-not-is_encoding.false) _ c.declarations-n.ensures))
 
-pub returns-then-not-is_resolved : goal.returns-then-not-is_resolved
-returns-then-not-is_resolved c = formed_faulty _ (sym c.is_encoding.ensures ∙ c.if-not-is_encoding.false) _ c.declarations-n.ensures (sym c.are_declarations.ensures ∙ c.if-not-are_declarations.false) _ c.rows_before-rows.ensures (sym c.is_resolved.ensures ∙ c.if-not-is_resolved.true)
-
 pub defaults_fit-requires : goal.defaults_fit-requires
 defaults_fit-requires c = let a = formed_asks _ (sym c.is_encoding.ensures ∙ c.if-not-is_encoding.false) _ c.declarations-n.ensures in (a.0, a.1, a.2, a.3, c.rows_before-rows.ensures)
 
-pub returns : goal.returns
-returns c = c.defaults_fit.ensures ∙ formed_last _ (sym c.is_encoding.ensures ∙ c.if-not-is_encoding.false) _ c.declarations-n.ensures (sym c.are_declarations.ensures ∙ c.if-not-are_declarations.false) _ c.rows_before-rows.ensures (sym c.is_resolved.ensures ∙ c.if-not-is_resolved.false)
+pub returns-else-is_resolved : goal.returns-else-is_resolved
+returns-else-is_resolved c = c.if-is_resolved.false ∙ formed_faulty _ (sym c.is_encoding.ensures ∙ c.if-not-is_encoding.false) _ c.declarations-n.ensures (sym c.are_declarations.ensures ∙ c.if-not-are_declarations.false) _ c.rows_before-rows.ensures (sym c.is_resolved.ensures ∙ c.if-is_resolved.false)
+
+pub returns-then-is_resolved : goal.returns-then-is_resolved
+returns-then-is_resolved c = c.defaults_fit.ensures ∙ formed_last _ (sym c.is_encoding.ensures ∙ c.if-not-is_encoding.false) _ c.declarations-n.ensures (sym c.are_declarations.ensures ∙ c.if-not-are_declarations.false) _ c.rows_before-rows.ensures (sym c.is_resolved.ensures ∙ c.if-is_resolved.true)

@@ -14,10 +14,10 @@ pub returns-then-left-h : goal.returns-then-left-h
 returns-then-left-h c = walk_far _ _ _ _ _ c.loop-h.invariant.1 c.if-left-h.true
 
 pub returns-then-is_clash : goal.returns-then-is_clash
-returns-then-is_clash c = walk_hit _ _ _ _ _ c.loop-h.invariant.1 (omega arith) c.if-left-h.false (meets_is _ _ _ _ _ _ c.loop-h-test.true (sym (c.is_clash.ensures _ c.requires.6) ∙ c.if-is_clash.true))
+returns-then-is_clash c = walk_hit _ _ _ _ _ c.loop-h.invariant.1 (omega arith) c.if-left-h.false (meets_is _ _ _ _ _ _ c.loop-h-test.true (sym (rw c.requires.6 at c.is_clash.ensures) ∙ c.if-is_clash.true))
 
 pub loop-h-preserved : goal.loop-h-preserved
-loop-h-preserved c = (omega arith, walk_on _ _ _ _ _ c.loop-h.invariant.1 (omega arith) c.if-left-h.false (meets_is _ _ _ _ _ _ c.loop-h-test.true (sym (c.is_clash.ensures _ c.requires.6) ∙ c.if-is_clash.false)) c.at-h-in-loop-h.ensures)
+loop-h-preserved c = (omega arith, walk_on _ _ _ _ _ c.loop-h.invariant.1 (omega arith) c.if-left-h.false (meets_is _ _ _ _ _ _ c.loop-h-test.true (sym (rw c.requires.6 at c.is_clash.ensures) ∙ c.if-is_clash.false)) c.at-h-in-loop-h.ensures)
 
 pub returns : goal.returns
 returns c = walk_none _ _ _ _ _ c.loop-h.invariant.1 (meets_low _ _ _ _ _ _ c.loop-h-test.false)

@@ -1,21 +1,21 @@
--- `resolve::declaration::climbs_on` meets its contract: the answer for the rows that are left, behind the depth of the last, is the answer.
+-- `resolve::declaration::climbs_on` meets its contract. The invariant: the rows left climb on from the depth of the row before them.
 -- Assumes nothing.
 use mathlib.Core.Path.{refl}
-use borrow.Author.Rules.{rules}
-use Rattle.resolve.proofs.TreeLaws.{climb_end, climb_top, climb_far, climb_more}
+use native.Mathlib.Omega.{arith}
+use Rattle.resolve.proofs.TreeLaws.{climb_end, climb_bad, climb_more}
 use Rattle.resolve.proofs.declaration.climbs_on.Goals as goal
+use Rattle.resolve.proofs.declaration.climbs_on.Goals.{then-d-eq0-via-then-d-eq0, then-d-eq0-via-else-d-eq0+then-depth-d}
 
 pub loop-i-init : goal.loop-i-init
-loop-i-init c = (search rules, search rules, search rules, refl)
+loop-i-init c = (omega arith, refl)
 
 pub returns-then-d-eq0 : goal.returns-then-d-eq0
-returns-then-d-eq0 c = climb_top _ _ _ _ _ c.loop-i.invariant.3 c.loop-i-test.true _ c.depth_at-d.ensures.0 c.if-d-eq0.true
-
-pub returns-then-depth-d : goal.returns-then-depth-d
-returns-then-depth-d c = climb_far _ _ _ _ _ c.loop-i.invariant.3 c.loop-i-test.true _ c.depth_at-d.ensures.0 c.if-depth-d.true
+returns-then-d-eq0 c =
+    climb_bad _ _ _ _ _ c.loop-i.invariant.1 c.loop-i-test.true _ c.depth_at-d.ensures.0
+    (λ h. elim c.then-d-eq0.branch [ then-d-eq0-via-then-d-eq0 w ↦ omega arith | then-d-eq0-via-else-d-eq0+then-depth-d w ↦ omega arith ])
 
 pub loop-i-preserved : goal.loop-i-preserved
-loop-i-preserved c = (search rules, search rules, c.depth_at-d.ensures.1, climb_more _ _ _ _ _ c.loop-i.invariant.3 c.loop-i-test.true _ c.depth_at-d.ensures.0 c.if-d-eq0.false c.if-depth-d.false)
+loop-i-preserved c = (c.depth_at-d.ensures.1, climb_more _ _ _ _ _ c.loop-i.invariant.1 c.loop-i-test.true _ c.depth_at-d.ensures.0 c.if-d-eq0.false c.if-depth-d.false)
 
 pub returns : goal.returns
-returns c = climb_end _ _ _ _ _ c.loop-i.invariant.3 c.loop-i-test.false
+returns c = climb_end _ _ _ _ _ c.loop-i.invariant.1 c.loop-i-test.false

@@ -10,8 +10,4 @@ use Rattle.resolve.proofs.TreeLaws.{below}
 use Rattle.resolve.proofs.tree.good_parts.Given as goal
 
 abbrev pub invariant-loop-j : goal.invariant-loop-j
-invariant-loop-j l = (l.i + 1 ≤ l.j) × (l.j ≤ l.end) × (l.n ≤ l.j)
-    × (good_parts (row_at l.mem l.i) (rows_from l.mem (l.end - (l.i + 1)) (l.i + 1)) ≡ left_fit (entry_at l.mem l.i).kind l.n (kinds_at (l.depth + 1) (below l.mem l.end l.depth l.j)))
-
-abbrev pub decreases-loop-j : goal.decreases-loop-j
-decreases-loop-j l = l.end - l.j
+invariant-loop-j l = (l.n ≤ l.j) × (good_parts (row_at l.mem l.i) (rows_from l.mem (l.end - (l.i + 1)) (l.i + 1)) ≡ left_fit (entry_at l.mem l.i).kind l.n (kinds_at (l.depth + 1) (below l.mem l.end l.depth l.j)))

@@ -8,7 +8,4 @@ use Rattle.row.specs.Memory.{rows_before}
 use Rattle.row.proofs.read.rows_before.Given as goal
 
 abbrev pub invariant-loop-i : goal.invariant-loop-i
-invariant-loop-i l = (l.i ≤ l.place) × (l.sum ≤ 65535 * l.i) × (l.sum + sum (words_of (l.place - l.i) (drop (2 + 2 * l.i) l.mem)) ≡ rows_before l.mem l.place)
-
-abbrev pub decreases-loop-i : goal.decreases-loop-i
-decreases-loop-i l = l.place - l.i
+invariant-loop-i l = (l.sum ≤ 65535 * l.i) × (l.sum + sum (words_of (l.place - l.i) (drop (2 + 2 * l.i) l.mem)) ≡ rows_before l.mem l.place)

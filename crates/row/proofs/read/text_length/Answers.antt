@@ -2,10 +2,10 @@
 -- Assumes nothing.
 use mathlib.Core.Path.{◌∙◌}
 use Prim.Native.Nat.{◌+◌, ◌*◌}
-use Rattle.row.proofs.ReadLaws.{number_from_lem}
+use Rattle.row.proofs.ReadLaws.{byte_from}
 use Rattle.row.specs.Layout.{rows_start, row_size}
 use borrow.Author.Rules.{rules}
 use Rattle.row.proofs.read.text_length.Goals as goal
 
 pub returns : goal.returns
-returns c = (c.byte_at.ensures.0 ∙ number_from_lem _ (rows_start + row_size * c.args.i) 6 1, search rules)
+returns c = (c.from.ensures ∙ byte_from _ (rows_start + row_size * c.args.i) 6, search rules)

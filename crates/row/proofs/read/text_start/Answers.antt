@@ -8,4 +8,4 @@ use borrow.Author.Rules.{rules}
 use Rattle.row.proofs.read.text_start.Goals as goal
 
 pub returns : goal.returns
-returns c = (c.u16_at.ensures ∙ number_from_lem _ (rows_start + row_size * c.args.i) 8 2, search rules)
+returns c = (c.from.ensures ∙ c.u16_at.ensures ∙ number_from_lem _ (rows_start + row_size * c.args.i) 8 2, search rules)

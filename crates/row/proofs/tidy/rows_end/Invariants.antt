@@ -8,7 +8,4 @@ use Rattle.row.specs.Tidy.{tidy_end, rows_end}
 use Rattle.row.proofs.tidy.rows_end.Given as goal
 
 abbrev pub invariant-loop-i : goal.invariant-loop-i
-invariant-loop-i l = (l.i ≤ l.n) × (l.end ≤ string_limit) × (tidy_end (l.n - l.i) l.end (drop (rows_start + row_size * l.i) l.mem) ≡ rows_end l.mem l.n)
-
-abbrev pub decreases-loop-i : goal.decreases-loop-i
-decreases-loop-i l = l.n - l.i
+invariant-loop-i l = (l.end ≤ string_limit) × (tidy_end (l.n - l.i) l.end (drop (rows_start + row_size * l.i) l.mem) ≡ rows_end l.mem l.n)

@@ -15,8 +15,8 @@ misfit-defaults-requires c = let d = misfit_asks _ _ _ _ _ _ _ c.join-a.ensures 
 pub returns-in-Err : goal.returns-in-Err
 returns-in-Err c = λ rows d. ended_by c.in-Err.is (append_refused _ _ _ _ _ _ _ c.join-a.ensures c.in-Err.is rows d)
 
-pub returns-in-Faulty : goal.returns-in-Faulty
-returns-in-Faulty c = λ rows d. append_misfit _ _ _ _ _ _ _ c.join-a.ensures c.requires.0 c.requires.1 _ c.counts-sum.ensures c.in-Ok.is _ c.misfit-defaults.ensures c.in-Faulty.is rows d c.placed.ensures
+pub returns-in-Err : goal.returns-in-Err
+returns-in-Err c = λ rows d. append_misfit _ _ _ _ _ _ _ c.join-a.ensures c.requires.0 c.requires.1 _ c.counts-sum.ensures c.in-Done.is _ c.misfit-defaults.ensures c.in-Err.is rows d c.placed.ensures
 
-pub returns-in-Resolved : goal.returns-in-Resolved
-returns-in-Resolved c = append_done _ _ _ _ _ _ _ c.join-a.ensures c.requires.0 c.requires.1 _ c.counts-sum.ensures c.in-Ok.is _ c.misfit-defaults.ensures c.in-Resolved.is
+pub returns-in-Ok : goal.returns-in-Ok
+returns-in-Ok c = append_done _ _ _ _ _ _ _ c.join-a.ensures c.requires.0 c.requires.1 _ c.counts-sum.ensures c.in-Done.is _ c.misfit-defaults.ensures c.in-Ok.is

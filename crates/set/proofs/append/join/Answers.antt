@@ -26,8 +26,8 @@ first_fault-names-requires c = let d = join_asks _ c.requires.0 _ c.counts-sum.e
 pub push-requires : goal.push-requires
 push-requires c = push_asks _ c.requires.0 _ c.counts-sum.ensures _ _ _ _ c.if-sum-n.false c.if-sum-bytes.false c.requires.2 c.requires.1
 
-pub returns-in-Faulty : goal.returns-in-Faulty
-returns-in-Faulty c = λ rows d. join_fault _ c.requires.0 _ c.counts-sum.ensures _ _ _ _ c.if-sum-n.false c.if-sum-bytes.false _ c.first_fault-names.ensures c.in-Faulty.is rows d c.placed.ensures
+pub returns-in-Err : goal.returns-in-Err
+returns-in-Err c = λ rows d. join_fault _ c.requires.0 _ c.counts-sum.ensures _ _ _ _ c.if-sum-n.false c.if-sum-bytes.false _ c.first_fault-names.ensures c.in-Err.is rows d c.placed.ensures
 
-pub returns-in-Resolved : goal.returns-in-Resolved
-returns-in-Resolved c = λ rows d. join_done _ c.requires.0 _ c.counts-sum.ensures _ _ _ _ c.if-sum-n.false c.if-sum-bytes.false _ c.first_fault-names.ensures c.requires.1 c.in-Resolved.is c.push.ensures.0 c.push.ensures.1 rows d
+pub returns-in-Ok : goal.returns-in-Ok
+returns-in-Ok c = λ rows d. join_done _ c.requires.0 _ c.counts-sum.ensures _ _ _ _ c.if-sum-n.false c.if-sum-bytes.false _ c.first_fault-names.ensures c.requires.1 c.in-Ok.is c.push.ensures.0 c.push.ensures.1 rows d

@@ -1,9 +1,0 @@
--- `row::number::eight` meets its contract: the eight bytes are those of the definition.
--- Assumes nothing.
-use mathlib.Core.Path.{refl}
-use Rattle.ground.specs.Numbers.{low_first}
-use Rattle.row.proofs.number.eight.Goals as goal
-
-pub returns : goal.returns
-unfolding low_first
-returns c = refl
