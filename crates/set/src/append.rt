@@ -15,14 +15,10 @@ use row::read::counts;
 use row::write::{declare, push_rows};
 
 // A refusal that has no byte position.
-pub(crate) fn refused(why: Why, place: usize) -> Answer
+pub(crate) fn refused<T>(why: Why, place: usize) -> Answer<T>
     ensures { result ≡ Err (record { why = why; place = place; at = 0 }) }
 {
-    Err(Refusal {
-        why: why,
-        place: place,
-        at: 0,
-    })
+    Err(Refusal { why, place, at: 0 })
 }
 
 // The n rows of `from` from row `start` on, written behind those that are counted, as one declaration more.
@@ -38,7 +34,13 @@ pub(crate) fn push(mem: &mut [u8], counts: Counts, from: &[u8], start: usize, n:
 }
 
 // One declaration more, for whose rows n, `bytes` and the memory `from` stand, but for 47; or 23 to 26, and all is as it was.
-pub(crate) fn join(mem: &mut [u8], from: &[u8], start: usize, n: usize, bytes: usize) -> Answer
+pub(crate) fn join(
+    mem: &mut [u8],
+    from: &[u8],
+    start: usize,
+    n: usize,
+    bytes: usize,
+) -> Answer<Counts>
     requires { (well_formed mem.old ≡ true) × (count_in mem.old < declaration_limit) × IsDraft «from».now start n bytes }
     ensures { (rows : List Row) → Drafted «from».now start n bytes rows
         → Ended mem.old mem.new result (joined (decode mem.old) rows) }
@@ -51,11 +53,8 @@ pub(crate) fn join(mem: &mut [u8], from: &[u8], start: usize, n: usize, bytes: u
     if Counts::STRING_BYTES - sum.string_bytes < bytes {
         return refused(Why::TooManyStringBytes, place);
     }
-    let names = first_fault(mem, sum.rows, from, start, n);
-    match names {
-        Err(f) => Answer::Refused(f.placed(place)),
-        Ok(()) => Answer::Done(push(mem, sum, from, start, n)),
-    }
+    first_fault(mem, sum.rows, from, start, n).map_err(|f| f.placed(place))?;
+    Ok(push(mem, sum, from, start, n))
 }
 
 // 47 of the last n rows, from `start` on. The check lays out large tables, so it is asked first whether there is a default.
@@ -70,21 +69,20 @@ fn misfit(out: &[u8], start: usize, n: usize) -> Result<(), Fault>
 }
 
 // The same with 47, in memory that holds anything where it is refused.
-pub(crate) fn append(out: &mut [u8], from: &[u8], start: usize, n: usize, bytes: usize) -> Answer
+pub(crate) fn append(
+    out: &mut [u8],
+    from: &[u8],
+    start: usize,
+    n: usize,
+    bytes: usize,
+) -> Answer<Counts>
     requires { (well_formed out.old ≡ true) × (count_in out.old < declaration_limit) × IsDraft «from».now start n bytes }
     ensures { (rows : List Row) → Drafted «from».now start n bytes rows
         → Ended out.new out.new result (append (decode out.old) rows) }
 {
     let sum = counts(out);
-    let a = join(out, from, start, n, bytes);
-    match a {
-        Err(r) => Err(r),
-        Ok(c) => {
-            let defaults = misfit(out, sum.rows, n);
-            match defaults {
-                Err(f) => Answer::Refused(f.placed(sum.declarations)),
-                Ok(()) => Answer::Done(c),
-            }
-        }
-    }
+    let place = sum.declarations;
+    let c = join(out, from, start, n, bytes)?;
+    misfit(out, sum.rows, n).map_err(|f| f.placed(place))?;
+    Ok(c)
 }

@@ -23,7 +23,7 @@ use row::write::clear;
 use schema::{Walked, declare};
 
 // Memory of the layout's length becomes the empty set, whatever it held.
-pub fn open(mem: &mut [u8]) -> Answer
+pub fn open(mem: &mut [u8]) -> Answer<Counts>
     ensures { (numbers_of result ≡ answer_of (opened mem.old))
         × (mem.new ≡ memory_of mem.old (opened mem.old)) }
 {
@@ -48,64 +48,48 @@ fn copy_before(mem: &[u8], place: usize, out: &mut [u8])
     ensures { out.new ≡ encode (take place (decode mem.now)) }
 {
     let mut sum = Counts::none();
-    let mut i = 0;
-    while i < place {
+    for i in 0..place {
         let n = rows_of(mem, i);
         sum = push(out, sum, mem, sum.rows, n);
-        i += 1;
     }
 }
 
 // The declarations of a set from a place on, appended in turn until one is refused.
-fn append_from(out: &mut [u8], mem: &[u8], place: usize) -> Answer
+fn append_from(out: &mut [u8], mem: &[u8], place: usize) -> Answer<Counts>
     requires { (well_formed out.old ≡ true) × (well_formed mem.now ≡ true) × (count_in out.old ≡ place) × (place ≤ count_in mem.now) }
     ensures { Ended out.new out.new result (append_all (decode out.old) (drop place (decode mem.now))) }
 {
     let n = declarations(mem);
     let mut start = rows_before(mem, place);
-    let mut i = place;
-    while i < n {
+    for i in place..n {
         let rows = rows_of(mem, i);
         let end = start + rows;
         let bytes = strings_before(mem, end) - strings_before(mem, start);
-        let a = append(out, mem, start, rows, bytes);
-        match a {
-            Err(r) => return Err(r),
-            Ok(_) => {}
-        }
+        append(out, mem, start, rows, bytes)?;
         start = end;
-        i += 1;
     }
     Ok(counts(out))
 }
 
 // Memory becomes what the scratch memory holds, unless that was refused.
-fn settle(mem: &mut [u8], out: &[u8], a: Answer) -> Answer
+fn settle(mem: &mut [u8], out: &[u8], a: Answer<Counts>) -> Answer<Counts>
     requires { length mem.old ≡ length out.now }
     ensures { (x : Result) → Ended out.now out.now a x → Ended mem.old mem.new result x }
 {
-    match a {
-        Err(r) => Err(r),
-        Ok(c) => {
-            copy(mem, 0, out);
-            Ok(c)
-        }
-    }
+    let c = a?;
+    copy(mem, 0, out);
+    Ok(c)
 }
 
 // The rows of a draft in place of a declaration: the declarations before it, the draft, those behind it.
-fn put_inside(mem: &mut [u8], place: usize, draft: &[u8], n: usize, bytes: usize) -> Answer
+fn put_inside(mem: &mut [u8], place: usize, draft: &[u8], n: usize, bytes: usize) -> Answer<Counts>
     requires { (well_formed mem.old ≡ true) × (place < count_in mem.old) × IsDraft draft.now 0 n bytes }
     ensures { (rows : List Row) → Drafted draft.now 0 n bytes rows
         → Ended mem.old mem.new result (append_all (take place (decode mem.old)) (rows ∷ drop (place + 1) (decode mem.old))) }
 {
     let mut out = [0u8; Layout::LENGTH];
     copy_before(mem, place, &mut out);
-    let a = append(&mut out, draft, 0, n, bytes);
-    match a {
-        Err(r) => return Err(r),
-        Ok(_) => {}
-    }
+    append(&mut out, draft, 0, n, bytes)?;
     let b = append_from(&mut out, mem, place + 1);
     settle(mem, &out, b)
 }
@@ -122,7 +106,7 @@ fn asks_to_fit(draft: &[u8], n: usize) -> bool
 }
 
 // The rows of a draft as one declaration more. Rows that have a default are appended to a copy first.
-fn put_last(mem: &mut [u8], draft: &[u8], n: usize, bytes: usize) -> Answer
+fn put_last(mem: &mut [u8], draft: &[u8], n: usize, bytes: usize) -> Answer<Counts>
     requires { (well_formed mem.old ≡ true) × (count_in mem.old < declaration_limit) × IsDraft draft.now 0 n bytes }
     ensures { (rows : List Row) → Drafted draft.now 0 n bytes rows
         → Ended mem.old mem.new result (append (decode mem.old) rows) }
@@ -137,7 +121,7 @@ fn put_last(mem: &mut [u8], draft: &[u8], n: usize, bytes: usize) -> Answer
 }
 
 // The rows of a draft at a place: one declaration more where the place is the count.
-fn put_rows(mem: &mut [u8], place: usize, draft: &[u8], n: usize, bytes: usize) -> Answer
+fn put_rows(mem: &mut [u8], place: usize, draft: &[u8], n: usize, bytes: usize) -> Answer<Counts>
     requires { (well_formed mem.old ≡ true) × (place ≤ count_in mem.old) × (place < declaration_limit) × IsDraft draft.now 0 n bytes }
     ensures { (rows : List Row) → Drafted draft.now 0 n bytes rows
         → Ended mem.old mem.new result (append_all (take place (decode mem.old)) (rows ∷ drop (place + 1) (decode mem.old))) }
@@ -149,7 +133,7 @@ fn put_rows(mem: &mut [u8], place: usize, draft: &[u8], n: usize, bytes: usize) 
 }
 
 // A declaration at a place, by its text: another one there or, where the place is the count, one more.
-pub fn put(mem: &mut [u8], place: usize, text: &[u8]) -> Answer
+pub fn put(mem: &mut [u8], place: usize, text: &[u8]) -> Answer<Counts>
     ensures { (numbers_of result ≡ answer_of (put mem.old place text.now))
         × (mem.new ≡ memory_of mem.old (put mem.old place text.now)) }
 {
@@ -163,9 +147,6 @@ pub fn put(mem: &mut [u8], place: usize, text: &[u8]) -> Answer
         return refused(Why::TooManyDeclarations, Counts::DECLARATIONS);
     }
     let mut draft = [0u8; Layout::LENGTH];
-    let read = read_text(text, &mut draft);
-    match read {
-        Err(f) => Err(f.placed(place)),
-        Ok(c) => put_rows(mem, place, &draft, c.rows, c.string_bytes),
-    }
+    let read = read_text(text, &mut draft).map_err(|f| f.placed(place))?;
+    put_rows(mem, place, &draft, read.rows, read.string_bytes)
 }

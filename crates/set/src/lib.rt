@@ -4,8 +4,6 @@
 mod append;
 mod calls;
 mod names;
-pub mod naming;
 
 pub use calls::{open, put};
 pub use names::{full_name, naming_of};
-pub use naming::Naming;

@@ -6,10 +6,10 @@ ghost use Rattle.row.specs.Memory.{behind};
 ghost use Rattle.resolve.specs.Kinds.{is_kind};
 ghost use Rattle.formed.specs.WellFormed.{well_formed};
 ghost use Rattle.set.specs.Naming.{has_full_name, name_in, full_name_in, start_in, full_name_start, numbers_of_naming, naming_of};
-ghost use Rattle.set.specs.Steps.{row_name, row_name_start, refused_name};
+ghost use Rattle.set.specs.Steps.{row_name, row_name_start};
 
-use crate::naming::Naming;
-use answer::{Refusal, Why};
+use crate::append::refused;
+use answer::{Answer, Why};
 use formed::well_formed;
 use row::Kind;
 use row::read::{declarations, kind_at, rows_before, rows_of, string_of};
@@ -77,26 +77,16 @@ pub fn full_name(mem: &[u8], place: usize, row: usize) -> &[u8]
     &mem[0..0]
 }
 
-fn refused_name(why: Why, place: usize) -> Naming
-    ensures { result ≡ refused_name why place }
-{
-    Err(Refusal {
-        why: why,
-        place: place,
-        at: 0,
-    })
-}
-
 // Whether a row has a full name, and if not, why.
-pub fn naming_of(mem: &[u8], place: usize, row: usize) -> Naming
+pub fn naming_of(mem: &[u8], place: usize, row: usize) -> Answer<usize>
     ensures { numbers_of_naming result ≡ naming_of mem.now place row }
 {
     if !well_formed(mem) {
-        return refused_name(Why::NotWellFormed, place);
+        return refused(Why::NotWellFormed, place);
     }
     let name = name_at(mem, place, row);
     if name.len() == 0 {
-        return refused_name(Why::NoSuchPlace, place);
+        return refused(Why::NoSuchPlace, place);
     }
     Ok(name.len())
 }

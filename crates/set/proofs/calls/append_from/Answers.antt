@@ -1,5 +1,6 @@
 -- `set::calls::append_from` meets its contract.
 -- Assumes nothing.
+use Rattle.std.proofs.lemmas.Result.{err_from_is_err_and}
 use mathlib.Core.Path.{sym, ◌∙◌}
 use Rattle.set.proofs.Places.{is_long, counts_asks}
 use Rattle.set.proofs.Rests.{places_asks, place_asks, left_all, end_asks, start_asks, bytes_order, rest_asks, rest_refused, rest_more, rest_end}
@@ -31,17 +32,19 @@ strings_before-requires-in-loop-i c = start_asks _ c.requires.1 c.loop-i.i (omeg
 pub overflow_sub-bytes : goal.overflow_sub-bytes
 overflow_sub-bytes c = bytes_order _ c.requires.1 c.loop-i.i (omega (arith, c.declarations-n.ensures, c.loop-i-test.true, c.requires.3)) _ c.rows_of-rows.ensures.0 _ _ _ c.loop-i.invariant.1 _ c.strings_before.ensures _ c.strings_before-in-loop-i.ensures
 
-pub append-a-requires : goal.append-a-requires
-append-a-requires c = rest_asks _ c.requires.1 c.loop-i.i (omega (arith, c.declarations-n.ensures, c.loop-i-test.true, c.requires.3)) _ c.rows_of-rows.ensures.0 _ _ _ c.loop-i.invariant.1 _ c.strings_before.ensures _ c.strings_before-in-loop-i.ensures
+pub append-requires : goal.append-requires
+append-requires c = rest_asks _ c.requires.1 c.loop-i.i (omega (arith, c.declarations-n.ensures, c.loop-i-test.true, c.requires.3)) _ c.rows_of-rows.ensures.0 _ _ _ c.loop-i.invariant.1 _ c.strings_before.ensures _ c.strings_before-in-loop-i.ensures
 
-pub shape_of-out-in-Err : goal.shape_of-out-in-Err
-shape_of-out-in-Err c = c.append-a.auto.out ∙ is_long _ c.loop-i.invariant.1.well ∙ sym (is_long _ c.requires.0)
+pub shape_of-out-in_err-append : goal.shape_of-out-in_err-append
+shape_of-out-in_err-append c = c.append.auto.out ∙ is_long _ c.loop-i.invariant.1.well ∙ sym (is_long _ c.requires.0)
 
-pub returns-in-Err : goal.returns-in-Err
-returns-in-Err c = rest_refused _ c.requires.1 c.loop-i.i (omega (arith, c.declarations-n.ensures, c.loop-i-test.true, c.requires.3)) _ c.rows_of-rows.ensures.0 _ _ _ c.loop-i.invariant.1 _ c.strings_before.ensures _ c.strings_before-in-loop-i.ensures _ _ c.append-a.ensures _ c.in-Err.is _
+pub returns-in_err-append : goal.returns-in_err-append
+returns-in_err-append c =
+    let p = err_from_is_err_and c.from_residual.result c.from_residual.ensures.1 in
+    rw (p.1, p.2) (rest_refused _ c.requires.1 c.loop-i.i (omega (arith, c.declarations-n.ensures, c.loop-i-test.true, c.requires.3)) _ c.rows_of-rows.ensures.0 _ _ _ c.loop-i.invariant.1 _ c.strings_before.ensures _ c.strings_before-in-loop-i.ensures _ _ c.append.ensures _ c.in_err-append.was _)
 
 pub loop-i-preserved : goal.loop-i-preserved
-loop-i-preserved c = (search rules, rest_more _ c.requires.1 c.loop-i.i (omega (arith, c.declarations-n.ensures, c.loop-i-test.true, c.requires.3)) _ c.rows_of-rows.ensures.0 _ _ _ c.loop-i.invariant.1 _ c.strings_before.ensures _ c.strings_before-in-loop-i.ensures _ _ c.append-a.ensures _ c.in-Ok.is)
+loop-i-preserved c = (search rules, rest_more _ c.requires.1 c.loop-i.i (omega (arith, c.declarations-n.ensures, c.loop-i-test.true, c.requires.3)) _ c.rows_of-rows.ensures.0 _ _ _ c.loop-i.invariant.1 _ c.strings_before.ensures _ c.strings_before-in-loop-i.ensures _ _ c.append.ensures _ c.in_ok-append.was)
 
 pub counts-requires : goal.counts-requires
 counts-requires c = counts_asks _ c.loop-i.invariant.1.well
