@@ -1,17 +1,16 @@
 -- Answers as one number.
 -- Assumes nothing.
-use Rattle.std.specs.Prelude.{ℕ, cond, eqb}
+use Rattle.json_scan.specs.Json.{Verdict}
+use Rattle.std.specs.Prelude.{ℕ, cond, eqb, Ok, Err}
 use Rattle.answer.specs.declared.numbers.Numbers.{Numbers}
 use Rattle.answer.specs.Limits.{no_counts}
 use Rattle.row.specs.Memory.{counted_all}
 use Rattle.schema.specs.Out.{Out, refused, read}
-use Rattle.json_scan.specs.declared.verdict.Scan.{Scan}
-use Rattle.json_scan.specs.declared.verdict.Scan.TheVariants.{Whole, Bad}
 
 -- a scan: the text's length where it is whole, else the place of its fault
-abbrev pub place_of : Scan → ℕ → ℕ
-place_of Whole n = n
-place_of (Bad f) n = f.at
+abbrev pub place_of : Verdict → ℕ → ℕ
+place_of (Ok u) n = n
+place_of (Err f) n = f.at
 
 -- a declaration: how many rows it has, 0 where it is refused
 abbrev pub rows_read : Out → ℕ

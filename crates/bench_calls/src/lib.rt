@@ -16,7 +16,6 @@ ghost use Rattle.summary.specs.Summary.{summary_of, datum_of};
 
 use answer::Answer;
 use canonical::Written;
-use json_scan::Scan;
 use schema::Walked;
 use summary::Offsets;
 
@@ -40,8 +39,8 @@ pub extern "C" fn bench_scan(text: &[u8]) -> usize
     ensures { result ≡ place_of (scanned text.now) (length text.now) }
 {
     match json_scan::scan(text) {
-        Scan::Whole => text.len(),
-        Scan::Bad(f) => f.at,
+        Ok(()) => text.len(),
+        Err(f) => f.at,
     }
 }
 

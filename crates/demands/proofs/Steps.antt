@@ -15,9 +15,7 @@ use Rattle.answer.specs.declared.refusal.Why.TheVariants.{TooManyDeclarations}
 use Rattle.answer.specs.declared.refusal.Refusal.{Refusal}
 use Rattle.ground.proofs.Laws.{and_true}
 use Rattle.name.specs.Name.{every}
-use Rattle.json_scan.specs.Json.{scanned}
-use Rattle.json_scan.specs.declared.verdict.Scan.{Scan}
-use Rattle.json_scan.specs.declared.verdict.Scan.TheVariants.{Whole, Bad}
+use Rattle.json_scan.specs.Json.{scanned, Verdict}
 use Rattle.row.specs.Layout.{declaration_limit, row_limit, string_limit}
 use Rattle.row.specs.Rows.{Row, texts}
 use Rattle.row.specs.Sets.{flat}
@@ -167,13 +165,13 @@ no_read : {A : Type 0} {f : _} {rows : List Row} → refused f ≡ read rows →
 no_read e = let z : ◌≡◌ {A = ℕ} 0 1 = cc in absurd (omega arith)
 
 -- a text that is read was scanned whole
-pub read_scanned : (t : List ℕ) (rows : List Row) → declared t ≡ read rows → (scanned t ≡ Whole) × (rows_of t ≡ read rows)
+pub read_scanned : (t : List ℕ) (rows : List Row) → declared t ≡ read rows → (scanned t ≡ Ok tt) × (rows_of t ≡ read rows)
 unfolding declared
 read_scanned t rows e = go (scanned t) e
   where
-    go : (s : Scan) → on_scan s (rows_of t) ≡ read rows → (s ≡ Whole) × (rows_of t ≡ read rows)
-    go Whole h = (refl, h)
-    go (Bad f) h = no_read h
+    go : (s : Verdict) → on_scan s (rows_of t) ≡ read rows → (s ≡ Ok tt) × (rows_of t ≡ read rows)
+    go (Ok u) h = (refl, h)
+    go (Err f) h = no_read h
 
 -- its rows keep the rules
 pub read_kept : (t : List ℕ) (rows : List Row) → declared t ≡ read rows → is_declaration rows ≡ true

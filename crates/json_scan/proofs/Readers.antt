@@ -2,20 +2,20 @@
 use mathlib.Core.Path.{◌≡◌, refl, sym, ap, subst, ◌∙◌}
 use mathlib.Core.Logic.{⊎_elim}
 use mathlib.Core.Bool.{Bool, true, false}
-use mathlib.Core.List.{List}
-use Prim.Native.Nat.{ℕ, suc, ◌+◌, ◌≤◌, ◌<◌}
+use mathlib.Core.List.{List, ◌∷◌}
+use Prim.Native.Nat.{ℕ, ◌+◌, ◌≤◌, ◌<◌}
 use native.Mathlib.Omega.{arith}
 use native.Mathlib.Numerals.{add-one}
-use borrow.Author.Tests.{eq-eqb, ne_eqb, lt-leb}
-use lib.ListN.{length, get_or, drop, drop_of_length-le, get_or-eq_default}
+use borrow.Author.Tests.{ne_eqb, lt-leb}
+use lib.ListN.{length, get_or, drop, get_or-eq_default}
 use lib.Seq.{drop-cons}
 use lib.Dec.{T}
 use Rattle.std.specs.Prelude.{Ok, Err}
 use Rattle.answer.specs.declared.refusal.Why.TheVariants.{NotJson}
-use Rattle.json_scan.specs.Json.{Mode, Stack, go, die, step, whole, one, inside, spelt, word, done, fault}
-use Rattle.json_scan.specs.Meets.{run_at, on_step, Forth, Onward, Reads, Takes, took, one_of, then_one, Step}
+use Rattle.json_scan.specs.Json.{Mode, Stack, go, die, step, whole, one, inside, spelt, word, is_byte}
+use Rattle.json_scan.specs.Meets.{on_step, Forth, Onward, Reads, Takes, took, one_of, then_one, Step}
 use Rattle.answer.specs.declared.refusal.Fault.{Fault}
-use Rattle.json_scan.proofs.Laws.{split, hop, halt, at_end}
+use Rattle.json_scan.proofs.Laws.{split, hop, halt}
 use Rattle.json_scan.proofs.Items.{forth_on}
 
 -- a byte of a class that 0 is not in stands within the text
@@ -79,27 +79,15 @@ pub onward_of : (t : List ℕ) (p q : ℕ) (r : Step) → p ≤ q → Forth t q 
 onward_of t p q (Ok e) l f = (omega arith, omega arith)
 onward_of t p q (Err x) l f = tt
 
--- the bytes of a word, from its i-th on
-module _ (t ws : List ℕ) (i p : ℕ) (h : i < length ws) (k : Stack) where
-  pub spell_on : p < length t → get_or t p 0 ≡ get_or ws i 0 → run_at t (spelt (drop i ws)) k p ≡ run_at t (spelt (drop (i + 1) ws)) k (p + 1)
-  spell_on l e =
-      ap (λ (x : List ℕ). run_at t (spelt x) k p) (drop-cons ws i 0 h)
-      ∙ hop t (word (get_or ws i 0) (drop (suc i) ws)) k p (spelt (drop (suc i) ws)) k l
-      (ap (λ (y : Bool). one y (spelt (drop (suc i) ws)) k) (eq-eqb (get_or t p 0) (get_or ws i 0) e))
-      ∙ ap (λ (n : ℕ). run_at t (spelt (drop n ws)) k (p + 1)) (sym (add-one i))
-
-  pub spell_end : length t ≤ p → run_at t (spelt (drop i ws)) k p ≡ fault NotJson p
-  spell_end l =
-      ap (λ (x : List ℕ). run_at t (spelt x) k p) (drop-cons ws i 0 h)
-      ∙ at_end t (word (get_or ws i 0) (drop (suc i) ws)) k p l
-
-  pub spell_bad : (get_or t p 0 ≡ get_or ws i 0 → ⊥) → run_at t (spelt (drop i ws)) k p ≡ fault NotJson p
-  spell_bad n =
-      ap (λ (x : List ℕ). run_at t (spelt x) k p) (drop-cons ws i 0 h)
-      ∙ halt t (word (get_or ws i 0) (drop (suc i) ws)) k p (ap (λ (y : Bool). one y (spelt (drop (suc i) ws)) k) (ne_eqb (get_or t p 0) (get_or ws i 0) n)) refl
-
-pub spell_done : (t ws : List ℕ) (i p : ℕ) (k : Stack) → length ws ≤ i → run_at t (spelt (drop i ws)) k p ≡ run_at t done k p
-spell_done t ws i p k h = ap (λ (x : List ℕ). run_at t (spelt x) k p) (drop_of_length-le ws h)
-
 pub apart : (x : ℕ) → 0 < x → 0 ≡ x → ⊥
 apart x h e = omega arith
+
+-- the i-th byte of a word
+pub letter : (t ws : List ℕ) (i p : ℕ) → i < length ws → 0 < get_or ws i 0 → (r : Step) → r ≡ one_of (is_byte (get_or ws i 0)) t p
+    → Reads t p (spelt (drop i ws)) (spelt (drop (i + 1) ws)) r
+letter t ws i p h l r e =
+    let x = get_or ws i 0 in
+    let rest = spelt (drop (i + 1) ws) in
+    let one = one_reads t p (word x (drop (i + 1) ws)) (is_byte x) (ne_eqb 0 x (λ z. absurd (apart x l z))) rest (λ k. (refl, refl)) in
+    reads_is t p (spelt (drop i ws)) rest (one_of (is_byte x) t p) r e
+    (subst (λ (m : Mode). Reads t p m rest (one_of (is_byte x) t p)) (sym (ap spelt (drop-cons ws i 0 h ∙ ap (λ (n : ℕ). x ∷ drop n ws) (sym (add-one i))))) one)

@@ -3,21 +3,14 @@ ghost use Rattle.json_scan.specs.Json.{is_digit, done, num, e, minus};
 ghost use Rattle.json_scan.specs.Meets.{Passes, Reads, Digits, Ends, powered, pointed};
 
 use crate::byte::{is_digit, is_e, is_sign};
-use crate::step::{Step, within};
+use crate::step::{Step, past, within};
 use ground::byte_at;
 
 // Past the digits.
 pub(crate) fn digits(text: &[u8], from: usize) -> usize
     ensures { Passes is_digit text.now from result }
 {
-    let mut at = from;
-    while at < text.len() {
-        if !is_digit(text[at]) {
-            return at;
-        }
-        at += 1;
-    }
-    at
+    past(text, from, is_digit)
 }
 
 // One digit or more.

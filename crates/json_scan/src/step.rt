@@ -1,5 +1,6 @@
 // Readers of one byte, of white space and of a word.
-ghost use Rattle.std.specs.Prelude.{◌≡◌, true, ◌<◌, length, Err};
+ghost use Rattle.std.specs.List.{All};
+ghost use Rattle.std.specs.Prelude.{◌≡◌, ℕ, Bool, true, false, ◌<◌, length, Err};
 ghost use Rattle.json_scan.specs.Json.{is_space, is_byte, inside, done, spelt};
 ghost use Rattle.json_scan.specs.Meets.{Passes, Reads, one_of, took};
 
@@ -26,18 +27,24 @@ pub(crate) fn bad(at: usize) -> Step
     })
 }
 
+// Past the bytes of a class.
+pub(crate) fn past<F: Fn(u8) -> bool>(text: &[u8], from: usize, is: F) -> usize
+    requires { F.IsAlwaysCallable is }
+    ensures { (c : ℕ → Bool) → ((b : ℕ) (r : Bool) → F.post is b r → r ≡ c b) → c 0 ≡ false → Passes c text.now from result }
+{
+    for at in from..text.len() {
+        if !is(text[at]) {
+            return at;
+        }
+    }
+    text.len().max(from)
+}
+
 // Past the white space.
 pub(crate) fn skip(text: &[u8], from: usize) -> usize
     ensures { Passes is_space text.now from result }
 {
-    let mut at = from;
-    while at < text.len() {
-        if !is_space(text[at]) {
-            return at;
-        }
-        at += 1;
-    }
-    at
+    past(text, from, is_space)
 }
 
 // Past the byte, if it is what must come.
@@ -67,22 +74,15 @@ pub(crate) fn byte(text: &[u8], at: usize, x: u8) -> Step
     take(text, at, b == x)
 }
 
-// The rest of a literal, which is not empty.
+// The rest of a literal, which is not empty, and has no byte 0.
 pub(crate) fn literal(text: &[u8], from: usize, word: &[u8]) -> Step
-    requires { 0 < length word.now }
+    requires some { 0 < length word.now }
+    requires letters { All (λ x. 0 < x) word.now }
     ensures { Reads text.now from (spelt word.now) done result }
 {
-    let mut i: usize = 0;
     let mut at = from;
-    while i < word.len() {
-        if at >= text.len() {
-            return bad(at);
-        }
-        if text[at] != word[i] {
-            return bad(at);
-        }
-        i += 1;
-        at += 1;
+    for x in word {
+        at = byte(text, at, *x)?;
     }
     Ok(at)
 }

@@ -5,24 +5,18 @@ ghost use Rattle.json_scan.specs.Meets.{Passes, Reads};
 
 use crate::byte::is_unescaped;
 use crate::escape::escape;
-use crate::step::{Step, bad};
+use crate::step::{Step, bad, past};
 use crate::utf8::wide_char;
 
 // Past the bytes that stand for themselves.
 pub(crate) fn unescaped(text: &[u8], from: usize) -> usize
     ensures { Passes is_unescaped text.now from result }
 {
-    let mut at = from;
-    while at < text.len() {
-        if !is_unescaped(text[at]) {
-            return at;
-        }
-        at += 1;
-    }
-    at
+    past(text, from, is_unescaped)
 }
 
 // One character or escape of a string, whose first byte is b, and no quote.
+// A `match` was tried: texts of escapes took a tenth longer.
 pub(crate) fn piece(text: &[u8], at: usize, b: u8) -> Step
     requires within { at < length text.now }
     requires first { b ≡ get_or text.now at 0 }
@@ -40,7 +34,7 @@ pub(crate) fn piece(text: &[u8], at: usize, b: u8) -> Step
     }
 }
 
-// A string from the byte after its first quote.
+// A string from the byte after its first quote. What stands at a place decides where the next one is, so no range or iterator fits.
 pub(crate) fn string(text: &[u8], from: usize) -> Step
     ensures { (w : Place) → Reads text.now from (str w plain) (closed w) result }
 {

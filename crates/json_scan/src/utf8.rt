@@ -24,6 +24,7 @@ pub(crate) fn three_more(text: &[u8], at: usize, lo: u8, hi: u8) -> Step
 }
 
 // A character of more than one byte, whose first is b.
+// A `match` was tried: texts of escapes and characters of several lengths took a tenth longer.
 pub(crate) fn wide_char(text: &[u8], at: usize, b: u8) -> Step
     requires within { at < length text.now }
     requires first { b ≡ get_or text.now at 0 }

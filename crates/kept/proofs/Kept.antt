@@ -6,9 +6,9 @@ use mathlib.Core.List.{List, []}
 use Prim.Native.Nat.{ℕ, zero, suc, ◌<◌, ◌≤◌}
 use native.Mathlib.Omega.{arith}
 use lib.ListN.{length}
+use Rattle.std.specs.Prelude.{Ok}
 use Rattle.name.specs.Name.{is_empty, is_namespace}
 use Rattle.json_scan.specs.Json.{longest, scanned}
-use Rattle.json_scan.specs.declared.verdict.Scan.TheVariants.{Whole}
 use Rattle.json_scan.proofs.Laws.{not_too_long}
 use Rattle.grammar.proofs.Theorems.{scanned_is_grammar}
 use Rattle.row.specs.Rows.{Row}
@@ -64,7 +64,7 @@ module _ (t : List ℕ) (short : length t ≤ longest) where
 
 -- ---- the rows of a text
 
-module _ (t : List ℕ) (rs : List Row) (s : scanned t ≡ Whole) (e : rows_of t ≡ read rs) where
+module _ (t : List ℕ) (rs : List Row) (s : scanned t ≡ Ok tt) (e : rows_of t ≡ read rs) where
   short : length t ≤ longest
   short = (scanned_is_grammar t s).0
 

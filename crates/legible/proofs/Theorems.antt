@@ -7,10 +7,10 @@ use Prim.Native.Nat.{ℕ, ◌+◌, ◌*◌, ◌^◌, ◌≤◌, ◌<◌}
 use native.Mathlib.Omega.{arith}
 use native.Mathlib.Decide.{dec_lt}
 use lib.ListN.{length}
+use Rattle.std.specs.Prelude.{Ok}
 use Rattle.answer.specs.declared.refusal.Why.TheVariants.{NotJson, NestedTooDeep}
 use Rattle.ground.specs.Bytes.{byte_at}
 use Rattle.json_scan.specs.Json.{longest, deepest, fault, verdict, scanned}
-use Rattle.json_scan.specs.declared.verdict.Scan.TheVariants.{Whole}
 use Rattle.name.specs.Name.{every}
 use Rattle.row.specs.Rows.{Row}
 use Rattle.resolve.specs.Rules.{is_declaration}
@@ -44,7 +44,7 @@ module _ (rows : List Row) (e : is_declaration rows ≡ true) where
   canonical_plain = canonical_bytes rows e
 
   -- the scan accepts it, or finds it too deep
-  pub canonical_scans : (verdict (canonical_of rows) ≡ Whole) ⊎ ((p : ℕ) × (verdict (canonical_of rows) ≡ fault NestedTooDeep p))
+  pub canonical_scans : (verdict (canonical_of rows) ≡ Ok tt) ⊎ ((p : ℕ) × (verdict (canonical_of rows) ≡ fault NestedTooDeep p))
   canonical_scans = json_or_deep (2 * (deepest_row rows + 1)) (canonical_of rows) canonical_by_depth
 
   -- refusal 2 is never given for it
@@ -52,7 +52,7 @@ module _ (rows : List Row) (e : is_declaration rows ≡ true) where
   canonical_no_fault p h = (not_json (canonical_of rows) p h).none_is (2 * (deepest_row rows + 1)) canonical_by_depth
 
   -- within the limits of a text the scan finds it whole
-  pub canonical_whole : nesting rows ≤ deepest → length (canonical_of rows) ≤ longest → scanned (canonical_of rows) ≡ Whole
+  pub canonical_whole : nesting rows ≤ deepest → length (canonical_of rows) ≤ longest → scanned (canonical_of rows) ≡ Ok tt
   canonical_whole h l = grammar_is_scanned (canonical_of rows) l (canonical_is_json deepest h)
 
 -- the digits of a size stand for it; they are an integer of the grammar, and begin with 0 for 0 alone

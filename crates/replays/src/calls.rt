@@ -5,7 +5,6 @@ use answer::{Refusal, Why};
 use canonical::{Print, Written};
 use commands::Call;
 use formed::well_formed;
-use json_scan::Scan;
 use rabin::Rabin;
 use row::read::{declarations, rows_before, rows_of};
 use script::answers::{put_refusal, put_rows, put_spaced};
@@ -91,8 +90,8 @@ fn rows(stdout: &mut Output, mem: &[u8], place: usize, out: &mut [u8]) -> usize 
 
 fn scan(stdout: &mut Output, text: &[u8], out: &mut [u8]) -> usize {
     match json_scan::scan(text) {
-        Scan::Whole => put_ok(stdout, out),
-        Scan::Bad(f) => put_refusal(stdout, out, 0, f.placed(0)),
+        Ok(()) => put_ok(stdout, out),
+        Err(f) => put_refusal(stdout, out, 0, f.placed(0)),
     }
 }
 

@@ -4,8 +4,7 @@
 
 ghost use Rattle.std.specs.Prelude.{◌<◌, ◌≤◌, length, IfOk};
 
-use answer::Why;
-use json_scan::Scan;
+use answer::{Fault, Why};
 use std::io;
 use std::io::{Read, Stdin, Stdout};
 
@@ -37,13 +36,10 @@ fn refused(stdout: Stdout, why: Why, at: usize) -> io::Result<()> {
     println!(stdout; "refused {} {at}", why.number())
 }
 
-fn report(stdout: Stdout, found: Scan) -> io::Result<()> {
+fn report(stdout: Stdout, found: Result<(), Fault>) -> io::Result<()> {
     match found {
-        Scan::Whole => println!(stdout; "ok"),
-        Scan::Bad(f) => {
-            let why = f.why;
-            refused(stdout, why, f.at)
-        }
+        Ok(()) => println!(stdout; "ok"),
+        Err(f) => refused(stdout, f.why, f.at),
     }
 }
 

@@ -7,13 +7,11 @@ use mathlib.Core.List.{List}
 use Prim.Native.Nat.{ℕ, ◌+◌, ◌≤◌, min}
 use native.Mathlib.Omega.{arith}
 use lib.ListN.{length, length-replicate}
+use Rattle.std.specs.Prelude.{Ok, Err}
 use Rattle.answer.specs.declared.counts.Counts.{Counts}
 use Rattle.answer.specs.declared.refusal.Fault.{Fault}
 use Rattle.answer.specs.Limits.{counts_of, no_counts}
-use Rattle.json_scan.specs.Json.{scanned}
-use Rattle.json_scan.specs.declared.verdict.Scan.{Scan}
-use Rattle.json_scan.specs.declared.verdict.Scan.TheVariants.{Whole}
-use Rattle.json_scan.specs.declared.verdict.Scan.TheVariants as scan
+use Rattle.json_scan.specs.Json.{scanned, Verdict}
 use Rattle.row.specs.Layout.{row_limit, string_limit, layout_length}
 use Rattle.row.specs.Rows.{Row, texts}
 use Rattle.row.specs.Sets.{zeros, rows_from}
@@ -34,9 +32,9 @@ declared_kept : (t : List ℕ) (rows : List Row) → declared t ≡ read rows �
 unfolding declared
 declared_kept t rows e = go (scanned t) refl e
   where
-    go : (s : Scan) → scanned t ≡ s → on_scan s (rows_of t) ≡ read rows → is_declaration rows ≡ true
-    go Whole p q = kept t rows p q
-    go (scan.Bad f) p q = let o : ◌≡◌ {A = ℕ} 0 1 = cc in absurd (omega arith)
+    go : (s : Verdict) → scanned t ≡ s → on_scan s (rows_of t) ≡ read rows → is_declaration rows ≡ true
+    go (Ok u) p q = kept t rows p q
+    go (Err f) p q = let o : ◌≡◌ {A = ℕ} 0 1 = cc in absurd (omega arith)
 
 -- ---- an empty draft of the layout's length that a walk left as d
 

@@ -3,12 +3,12 @@
 use mathlib.Core.Path.{sym, ap, ◌∙◌}
 use borrow.Author.Rules.{rules}
 use lib.ListN.{length}
-use Rattle.json_scan.specs.declared.verdict.Scan.{Scan}
+use Rattle.json_scan.specs.Json.{Verdict}
 use Rattle.bench_calls.specs.Places.{place_of}
 use Rattle.bench_calls.proofs.bench_scan.Goals as goal
 
-pub returns-in-Whole : goal.returns-in-Whole
-returns-in-Whole c = sym (ap (λ (x : Scan). place_of x (length c.args.text.now)) (sym c.scan.ensures ∙ c.in-Whole.is))
+pub returns-in-Ok : goal.returns-in-Ok
+returns-in-Ok c = sym (ap (λ (x : Verdict). place_of x (length c.args.text.now)) (sym c.scan.ensures ∙ c.in-Ok.is))
 
 pub returns-in-Err : goal.returns-in-Err
-returns-in-Err c = sym (ap (λ (x : Scan). place_of x (length c.args.text.now)) (sym c.scan.ensures ∙ c.in-Err.is))
+returns-in-Err c = sym (ap (λ (x : Verdict). place_of x (length c.args.text.now)) (sym c.scan.ensures ∙ c.in-Err.is))

