@@ -18,7 +18,7 @@ use Rattle.kept.proofs.Forest.{Rows, rows_none, rows_append}
 
 -- ---- checks
 
-pub bad_fine : {A : Type 0} {f : Fault} → Err f ≡ Ok tt → A
+pub bad_fine : {A : Type 0} {f : Fault} → ◌≡◌ {A = Check} (Err f) (Ok tt) → A
 bad_fine e = let z : ◌≡◌ {A = ℕ} 0 1 = cc in absurd (omega arith)
 
 pub must_true : (b : Bool) (f : Fault) → must b f ≡ Ok tt → b ≡ true
