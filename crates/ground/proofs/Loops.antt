@@ -1,8 +1,8 @@
 -- What the library's methods give, in the words of the contracts; and the turn of the loop over bytes that are to be 0.
 -- Assumes nothing.
 use mathlib.Core.Path.{◌≡◌, refl, sym, ap, ◌∙◌}
-use mathlib.Core.Bool.{Bool, ◌&&◌, and-true, and_assoc}
-use mathlib.Core.List.{List, [], ◌∷◌, ◌++◌}
+use mathlib.Core.Bool.{Bool, true, false, ◌&&◌, and-true, and_assoc}
+use mathlib.Core.List.{List, ◌++◌}
 use Prim.Native.Nat.{ℕ, suc, ◌+◌, ◌-◌, ◌<◌, ◌≤◌, max, min}
 use native.Mathlib.Numerals.{add-one}
 use native.Mathlib.Decide.{dec_le}
@@ -10,18 +10,20 @@ use native.Mathlib.Omega.{arith}
 use lib.ListN.{length, take, drop, get_or, length-take, drop_of_length-le, take-append-drop}
 use lib.Seq.{drop-cons, drop-drop, take_all}
 use lib.Dec.{eqb}
-use lib.Pointwise.{pointwise}
 use borrow.Author.Tests.{eq-eqb, ne_eqb}
+use Rattle.std.specs.Prelude.{MatchBool, ◌≢◌}
+use Rattle.std.proofs.lemmas.Grind.{same_number_lists}
 use Rattle.ground.specs.Bytes.{same, all_zero, store}
-use Rattle.ground.proofs.Laws.{length_store, store_past, store_append, store_fits}
+use Rattle.ground.proofs.Laws.{same_refl, same_true, length_store, store_past, store_append, store_fits}
 
--- `==` of two slices
-pub same_pairs : (a b : List ℕ) → pointwise eqb a b ≡ same a b
-unfolding same
-same_pairs [] [] = refl
-same_pairs [] (y ∷ b) = refl
-same_pairs (x ∷ a) [] = refl
-same_pairs (x ∷ a) (y ∷ b) = ap (λ (z : Bool). eqb x y && z) (same_pairs a b)
+-- strings of one length are the same where all bytes are, and are not where one differs
+pub same_told : (a b : List ℕ) (r : Bool) → length a ≡ length b → MatchBool r ((k : ℕ) → k < length a → get_or a k 0 ≡ get_or b k 0) ((k : ℕ) × (k < length a) × (get_or a k 0 ≢ get_or b k 0)) → r ≡ same a b
+same_told a b true e h = sym (ap (same a) (sym (same_number_lists a b e h)) ∙ same_refl a)
+same_told a b false e h = go (same a b) refl
+  where
+    go : (x : Bool) → same a b ≡ x → false ≡ x
+    go false f = refl
+    go true f = absurd (h.2 (ap (λ (l : List ℕ). get_or l h.0 0) (same_true a b f)))
 
 -- the larger of two is 0 where both are
 both_zero : (a b : ℕ) → eqb (max a b) 0 ≡ (eqb a 0 && eqb b 0)

@@ -12,12 +12,12 @@ pub fn byte_at(s: &[u8], at: usize) -> u8
     s.get(at).copied().unwrap_or(0)
 }
 
-// Are the two the same bytes?
-#[tactic(auto, using(crate::proofs::Loops::same_pairs))]
+// Are the two the same bytes? Lengths first, then bytes from the last: most strings that are compared differ, and most that differ
+// share their beginning.
 pub fn same(a: &[u8], b: &[u8]) -> bool
     ensures { result ≡ same a.now b.now }
 {
-    a == b
+    a.len() == b.len() && a.iter().rev().eq(b.iter().rev())
 }
 
 // Is every byte 0? No way out of the loop before its end, so that it goes by many bytes at a turn. (Tried: `all`, which stops at the
