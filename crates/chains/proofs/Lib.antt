@@ -1,2 +1,2 @@
 pub mod Laws
-mod Shorts
+pub mod Numbers

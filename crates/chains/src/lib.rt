@@ -2,53 +2,22 @@
 // is looked at, so that no mark and no slot is trusted with anything; what was entered is on the chain of its slot.
 #![tactic(auto)]
 
-ghost use Rattle.std.specs.Prelude.{◌≡◌, ◌+◌, ◌*◌, ◌<◌, ◌≤◌, length, get_or, set};
-ghost use Rattle.chains.specs.Marks.{two_at, eight_at, short_from, spread, mark_of};
+ghost use Rattle.std.specs.Prelude.{◌≡◌, ◌+◌, ◌*◌, ◌<◌, length, get_or, set};
+ghost use Rattle.chains.specs.Marks.{short_from, spread, mark_of};
 ghost use Rattle.chains.specs.Chains.{slots, slot_of};
 
 // A table has so many slots.
 pub const SLOTS: usize = 2048;
 
-fn wide(b: u8) -> usize
-    ensures { (result ≡ b) × (result < 256) }
-{
-    b as usize
-}
-
-fn two(s: &[u8], at: usize) -> usize
-    requires { at + 2 ≤ length s.now }
-    ensures { (result ≡ two_at s.now at) × (result < 65536) }
-{
-    let low = wide(s[at]);
-    let high = wide(s[at + 1]);
-    low + 256 * high
-}
-
-// Eight bytes as a number; one load.
-fn eight(s: &[u8], at: usize) -> usize
-    requires { at + 8 ≤ length s.now }
-    ensures { result ≡ eight_at s.now at }
-{
-    let a = two(s, at);
-    let b = two(s, at + 2);
-    let c = two(s, at + 4);
-    let d = two(s, at + 6);
-    a + 65536 * b + 4294967296 * c + 281474976710656 * d
-}
-
 // The bytes of a short string as a number.
 fn short(s: &[u8]) -> usize
     ensures { result ≡ short_from 0 s.now }
 {
-    let mut h: usize = 0;
-    let mut i: usize = 0;
-    while i < s.len() {
-        h = h % 72057594037927936 * 256 + wide(s[i]);
-        i += 1;
-    }
-    h
+    s.iter()
+        .fold(0, |h, b| h % 72057594037927936 * 256 + usize::from(*b))
 }
 
+#[tactic(auto, unfolding(crate::specs::Marks::spread))]
 fn spread(n: usize) -> usize
     ensures { (result ≡ spread n) × (result < 2 * slots) }
 {
@@ -61,24 +30,19 @@ fn spread(n: usize) -> usize
 pub fn mark(s: &[u8]) -> usize
     ensures { result ≡ mark_of s.now }
 {
-    let n = s.len();
-    if n < 8 {
-        return n % SLOTS + spread(short(s));
-    }
-    n % SLOTS + (spread(eight(s, 0)) + spread(eight(s, n - 8)))
+    let n = s.len() % SLOTS;
+    let (Some(front), Some(back)) = (s.first_chunk::<8>(), s.last_chunk::<8>()) else {
+        return n + spread(short(s));
+    };
+    n + spread(usize::from_le_bytes(*front)) + spread(usize::from_le_bytes(*back))
 }
 
 // The slot of a mark; those of different owners lie apart.
+#[tactic(auto, unfolding(crate::specs::Chains::slot_of))]
 pub fn slot(mark: usize, owner: usize) -> usize
     ensures { (result ≡ slot_of mark owner) × (result < slots) }
 {
     (mark % SLOTS + owner % SLOTS * 37) % SLOTS
-}
-
-fn longer(e: u16) -> usize
-    ensures { result ≡ e }
-{
-    e as usize
 }
 
 // What a table has at a place: of a slot the number that was entered last, plus 1; of a number the one before it, plus 1.
@@ -86,7 +50,7 @@ pub fn at(table: &[u16], i: usize) -> usize
     requires { i < length table.now }
     ensures { result ≡ get_or table.now i 0 }
 {
-    longer(table[i])
+    usize::from(table[i])
 }
 
 // A number is entered under a slot.

@@ -1,14 +1,15 @@
 // Strings of bytes, as every other crate reads, compares and copies them; and the size of a signed number.
 #![tactic(auto)]
 
-ghost use Rattle.std.specs.Prelude.{◌≡◌, ◌-◌, max, min, nat_abs};
+ghost use Rattle.std.specs.Prelude.{◌≡◌, nat_abs};
 ghost use Rattle.ground.specs.Bytes.{byte_at, same, all_zero, store};
 
 // The byte at a place, 0 past the end.
+#[tactic(auto, unfolding(crate::specs::Bytes::byte_at))]
 pub fn byte_at(s: &[u8], at: usize) -> u8
     ensures { result ≡ byte_at s.now at }
 {
-    if at < s.len() { s[at] } else { 0 }
+    s.get(at).copied().unwrap_or(0)
 }
 
 // Are the two the same bytes? Lengths first, then bytes from the last: most strings that are compared differ, and most that differ
@@ -16,59 +17,30 @@ pub fn byte_at(s: &[u8], at: usize) -> u8
 pub fn same(a: &[u8], b: &[u8]) -> bool
     ensures { result ≡ same a.now b.now }
 {
-    if a.len() != b.len() {
-        return false;
-    }
-    let mut back = 1;
-    while back <= a.len() {
-        let i = a.len() - back;
-        if a[i] != b[i] {
-            return false;
-        }
-        back += 1;
-    }
-    true
+    a.len() == b.len() && a.iter().rev().eq(b.iter().rev())
 }
 
-// Is every byte 0? No way out of the loop before its end, so that it goes by many bytes at a turn.
+// Is every byte 0? No way out of the loop before its end, so that it goes by many bytes at a turn. (Tried: `all`, which stops at the
+// first byte that is not 0; it takes 24 times as long over 50,000 zeros.)
+#[tactic(auto, using(crate::proofs::Loops::zero_turn, crate::proofs::Loops::zero_end))]
 pub fn all_zero(s: &[u8]) -> bool
     ensures { result ≡ all_zero s.now }
 {
-    let mut most: u8 = 0;
-    let mut i = 0;
-    while i < s.len() {
-        most = larger(most, s[i]);
-        i += 1;
+    let mut most = 0u8;
+    for b in s {
+        most = most.max(*b);
     }
     most == 0
 }
 
-fn larger(a: u8, b: u8) -> u8
-    ensures { result ≡ max a b }
-{
-    if a < b { b } else { a }
-}
-
-// How many of n bytes have room from `at` on.
-fn fitting(room: usize, at: usize, n: usize) -> usize
-    ensures { result ≡ min n (room - at) }
-{
-    if room <= at {
-        return 0;
-    }
-    if n <= room - at { n } else { room - at }
-}
-
-// Stores the bytes of `from` in `to`, from `at` on, as far as there is room. No way out of the loop before its end, so that it goes
-// by many bytes at a turn.
+// Stores the bytes of `from` in `to`, from `at` on, as far as there is room.
+#[tactic(auto, using(crate::proofs::Loops::store_part, crate::proofs::Laws::store_past))]
 pub fn copy(to: &mut [u8], at: usize, from: &[u8])
     ensures { to.new ≡ store to.old at «from».now }
 {
-    let n = fitting(to.len(), at, from.len());
-    let mut i = 0;
-    while i < n {
-        to[at + i] = from[i];
-        i += 1;
+    if at < to.len() {
+        let n = from.len().min(to.len() - at);
+        to[at..at + n].copy_from_slice(&from[..n]);
     }
 }
 
@@ -76,5 +48,5 @@ pub fn copy(to: &mut [u8], at: usize, from: &[u8])
 pub fn magnitude(s: i64) -> u64
     ensures { result ≡ nat_abs s }
 {
-    if s < 0 { !s as u64 + 1 } else { s as u64 }
+    s.unsigned_abs()
 }

@@ -4,7 +4,6 @@ use mathlib.Core.Bool.{Bool, true, false, not, cond, ◌&&◌, and_assoc, and-eq
 use mathlib.Core.List.{List, [], ◌∷◌}
 use Prim.Native.Nat.{ℕ, ◌+◌, ◌-◌, ◌<◌, ◌≤◌}
 use native.Mathlib.Numerals.{add-one}
-use native.Mathlib.Omega.{arith}
 use lib.Dec.{eqb}
 use lib.ListN.{length, take, drop, get_or, drop_of_length-le}
 use lib.Seq.{drop-cons}
@@ -112,16 +111,6 @@ module _ (dots first : Bool) (s : List ℕ) (i : ℕ) where
     keeps_next e = rw (add-one, drop-cons s i 0 h, e)
 
 -- ---- a leading dot
-pub lead_none : (s : List ℕ) → length s ≡ 0 → false ≡ starts_with_dot s
-unfolding starts_with_dot
-lead_none [] e = refl
-lead_none (b ∷ bs) e = absurd (omega arith)
-
-pub lead_byte : (s : List ℕ) → (length s ≡ 0 → ⊥) → eqb (get_or s 0 0) dot ≡ starts_with_dot s
-unfolding starts_with_dot
-lead_byte [] n = absurd (n refl)
-lead_byte (b ∷ bs) n = refl
-
 pub name_tail : (s : List ℕ) → starts_with_dot s ≡ true → is_simple (take (length s - 1) (drop 1 s)) ≡ is_name s
 name_tail s e = ap is_simple (lent_tail s) ∙ sym (name_lead s e)
 

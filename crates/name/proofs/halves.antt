@@ -1,2 +1,2 @@
 -- What the proofs on the halves of a full name use.
-mod Start
+pub mod Dots

@@ -1,2 +1,2 @@
 -- What the proofs on reserved words use.
-mod Words
+pub mod Words

@@ -1,24 +1,24 @@
--- The bytes of a number, lowest first, are its digits to the base 256.
+-- The bytes of a number, lowest first, as the library tells them.
 -- Assumes nothing.
-use mathlib.Core.Path.{◌≡◌, refl, sym, ap, ◌∙◌}
-use mathlib.Core.List.{List, [], ◌∷◌}
-use Prim.Native.Nat.{ℕ, zero, suc, ◌+◌, ◌/◌, ◌%◌, ◌^◌}
+use mathlib.Core.Path.{◌≡◌, refl, ap₂}
+use mathlib.Core.List.{List, ◌∷◌}
+use Prim.Native.Nat.{ℕ, zero, suc, ◌/◌, ◌%◌, ◌^◌}
 use native.Mathlib.Omega.{arith}
-use lib.Pow.{shr-shr}
+use Rattle.std.proofs.Math.Nat.{pow-suc, div-div-eq-div-mul}
+use mir.Syntax.{w64}
+use Rattle.std.specs.Int.{byte_at, bytes_low_first, to_le_bytes}
 use Rattle.ground.specs.Numbers.{low_first}
 
--- the digits from k bits above the lowest on, n of them
-digits : ℕ → ℕ → ℕ → List ℕ
-digits v k zero = []
-digits v k (suc n) = v / 2 ^ k % 256 ∷ digits v (k + 8) n
+at_is : (i n m : ℕ) → m ≡ n / 256 ^ i → byte_at i n ≡ m % 256
+at_is zero n m e = let h : m ≡ n = omega arith in rw h
+at_is (suc i) n m e = rw e
 
-are_bytes : (v k n : ℕ) → digits v k n ≡ low_first n (v / 2 ^ k)
-unfolding digits low_first
-are_bytes v k zero = refl
-are_bytes v k (suc n) = ap (λ (l : List ℕ). v / 2 ^ k % 256 ∷ l) (are_bytes v (k + 8) n ∙ ap (low_first n) (sym (shr-shr v k 8)))
+le_bytes : (k i n m : ℕ) → m ≡ n / 256 ^ i → bytes_low_first i k n ≡ low_first k m
+unfolding low_first
+le_bytes zero i n m e = refl
+le_bytes (suc k) i n m e =
+    let h : m / 256 ≡ n / 256 ^ suc i = rw (pow-suc, e) (div-div-eq-div-mul n (256 ^ i) 256) in
+    ap₂ (λ (b : ℕ) (l : List ℕ). b ∷ l) (at_is i n m e) (le_bytes k (suc i) n (m / 256) h)
 
-pub eight : (v : ℕ)
-    → ◌≡◌ {A = List ℕ} (v / 2 ^ 0 % 256 ∷ v / 2 ^ 8 % 256 ∷ v / 2 ^ 16 % 256 ∷ v / 2 ^ 24 % 256 ∷ v / 2 ^ 32 % 256 ∷ v / 2 ^ 40 % 256 ∷ v / 2 ^ 48 % 256 ∷ v / 2 ^ 56 % 256 ∷ [])
-    (low_first 8 v)
-unfolding digits
-eight v = are_bytes v 0 8 ∙ ap (low_first 8) (omega arith)
+pub eight_bytes : (n : ℕ) → to_le_bytes w64 n ≡ low_first 8 n
+eight_bytes n = le_bytes 8 0 n n (omega arith)

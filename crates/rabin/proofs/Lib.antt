@@ -1,5 +1,5 @@
 pub mod Laws
 mod Entries
 mod Signed
-mod Digits
 mod Loop
+mod Digits

@@ -1,14 +1,12 @@
 // The Rabin fingerprint, CRC-64-AVRO, with a signed state of 64 bits.
 #![tactic(auto)]
 
-mod octets;
 mod table;
 
 ghost use Rattle.std.specs.Prelude.{◌≡◌};
 ghost use Rattle.rabin.specs.Rabin.{bits_of, signed_of, entry_of, empty, byte_step, rabin_from, rabin_of, bytes_of};
 ghost use Rattle.rabin.specs.Table.{table};
 
-use octets::octets;
 use table::entries;
 
 // The state after some bytes.
@@ -24,9 +22,7 @@ impl Rabin {
     pub fn new() -> Self
         ensures { result.state ≡ empty }
     {
-        Rabin {
-            state: Rabin::EMPTY,
-        }
+        Rabin { state: Self::EMPTY }
     }
 
     // One byte more. For many, `update` is the fast way.
@@ -45,10 +41,8 @@ impl Rabin {
     {
         let t = entries();
         let mut s = self.state;
-        let mut i: usize = 0;
-        while i < bytes.len() {
-            s = step(&t, s, bytes[i]);
-            i += 1;
+        for b in bytes {
+            s = step(&t, s, *b);
         }
         Rabin { state: s }
     }
@@ -64,7 +58,7 @@ impl Rabin {
     pub fn bytes(self) -> [u8; 8]
         ensures { result ≡ bytes_of self.state }
     {
-        octets(self.state)
+        self.state.to_le_bytes()
     }
 }
 
@@ -79,8 +73,7 @@ pub fn fingerprint(bytes: &[u8]) -> i64
 pub fn entry(i: u8) -> i64
     ensures { result ≡ signed_of (entry_of i) }
 {
-    let t = entries();
-    t[i as usize]
+    entries()[usize::from(i)]
 }
 
 // One byte, by the table. The arithmetic shift with its high byte cleared is the shift without sign.
@@ -88,6 +81,6 @@ fn step(t: &[i64; 256], s: i64, b: u8) -> i64
     requires { t.now ≡ table }
     ensures { result ≡ byte_step s b }
 {
-    let i = ((s ^ (b as i64)) & 0xff) as usize;
+    let i = ((s ^ i64::from(b)) & 0xff) as usize;
     ((s >> 8) & 0x00ff_ffff_ffff_ffff) ^ t[i]
 }

@@ -15,9 +15,8 @@ use Rattle.ground.proofs.Laws.{never, same_true}
 use Rattle.name.specs.Name.{is_one_of}
 use Rattle.name.proofs.Laws.{one_of_append}
 use Rattle.view.specs.Marks.{mark_of}
-use Rattle.seen.specs.declared.Found.{Found}
-use Rattle.seen.specs.declared.Found.TheVariants.{Marked, Free}
-use Rattle.seen.specs.Seen.{span, Sized, place_in, next_of, from, found_in, is_there, is_marked, put, entered, Holds}
+use Rattle.std.specs.Prelude.{Option, Some, None}
+use Rattle.seen.specs.Seen.{span, Sized, place_in, next_of, from, free_place, is_there, is_marked, put, entered, Holds}
 
 pub place_product : (size x : ℕ) → 0 < size → x < span → x * size < span * size
 place_product size x l h = mul-lt-mul_of_pos_right h l
@@ -36,10 +35,10 @@ next_fits size m =
 module _ (t : List ℕ) (m : ℕ) where
   -- an empty place, of the table
   module _ (l : 0 < length t) (i : ℕ) where
-    free_place : (n x : ℕ) → x < span → from t m n x ≡ Free i → (get_or t i 0 ≡ 0) × (i < length t)
+    from_empty : (n x : ℕ) → x < span → from t m n x ≡ Some i → (get_or t i 0 ≡ 0) × (i < length t)
     unfolding from
-    free_place zero x h e = let z : true ≡ false = ap is_there e in never (sym z)
-    free_place (suc n) x h e = go (eqb (get_or t at 0) m) refl (eqb (get_or t at 0) 0) refl (free_place n (next_of (length t) m x) (omega arith))
+    from_empty zero x h e = let z : true ≡ false = ap is_there e in never (sym z)
+    from_empty (suc n) x h e = go (eqb (get_or t at 0) m) refl (eqb (get_or t at 0) 0) refl (from_empty n (next_of (length t) m x) (omega arith))
       where
         at : ℕ
         at = place_in (length t) x
@@ -48,10 +47,10 @@ module _ (t : List ℕ) (m : ℕ) where
         b = place_below (length t) x l h
 
         go : (y : Bool) → eqb (get_or t at 0) m ≡ y → (z : Bool) → eqb (get_or t at 0) 0 ≡ z
-            → (from t m n (next_of (length t) m x) ≡ Free i → (get_or t i 0 ≡ 0) × (i < length t)) → (get_or t i 0 ≡ 0) × (i < length t)
-        go true p y q f = let z : Marked ≡ Free i = rw p at e in let w : true ≡ false = ap is_there z in never (sym w)
+            → (from t m n (next_of (length t) m x) ≡ Some i → (get_or t i 0 ≡ 0) × (i < length t)) → (get_or t i 0 ≡ 0) × (i < length t)
+        go true p y q f = let z : None ≡ Some i = rw p at e in let w : true ≡ false = ap is_there z in never (sym w)
         go false p true q f =
-            let z : Free at ≡ Free i = rw (p, q) at e in
+            let z : Some at ≡ Some i = rw (p, q) at e in
             let w : at ≡ i = cc in
             (rw (← w) (eqb-true (get_or t at 0) 0 q), rw (← w) b)
         go false p false q f = f (rw (p, q) at e)
@@ -81,7 +80,7 @@ module _ (t : List ℕ) (m : ℕ) where
 
   -- the mark is there when it fills the place that the walk found
   module _ (i : ℕ) (b : i < length t) where
-    filled_there : (n x : ℕ) → from t m n x ≡ Free i → is_there (from (set t i m) m n x) ≡ true
+    filled_there : (n x : ℕ) → from t m n x ≡ Some i → is_there (from (set t i m) m n x) ≡ true
     unfolding from
     filled_there zero x e = refl
     filled_there (suc n) x e = go (eqb (get_or t at 0) m) refl (eqb (get_or t at 0) 0) refl (eqb at i) refl (filled_there n (next_of (length t) m x))
@@ -90,12 +89,12 @@ module _ (t : List ℕ) (m : ℕ) where
         at = place_in (length t) x
 
         go : (y : Bool) → eqb (get_or t at 0) m ≡ y → (w : Bool) → eqb (get_or t at 0) 0 ≡ w → (z : Bool) → eqb at i ≡ z
-            → (from t m n (next_of (length t) m x) ≡ Free i → is_there (from (set t i m) m n (next_of (length t) m x)) ≡ true)
+            → (from t m n (next_of (length t) m x) ≡ Some i → is_there (from (set t i m) m n (next_of (length t) m x)) ≡ true)
             → is_there (from (set t i m) m (suc n) x) ≡ true
         go y p w q true r f = rw (length-set, eqb-true at i r, get_or-set_same t i m 0 b, eq-eqb m m refl)
-        go true p w q false r f = let z : Marked ≡ Free i = rw p at e in let w : true ≡ false = ap is_there z in never (sym w)
+        go true p w q false r f = let z : None ≡ Some i = rw p at e in let w : true ≡ false = ap is_there z in never (sym w)
         go false p true q false r f =
-            let z : Free at ≡ Free i = rw (p, q) at e in
+            let z : Some at ≡ Some i = rw (p, q) at e in
             let w : at ≡ i = cc in
             absurd (eqb-false at i r w)
         go false p false q false r f =
@@ -105,53 +104,53 @@ module _ (t : List ℕ) (m : ℕ) where
 
 pub length_entered : (table : List ℕ) (m : ℕ) → length (entered table m) ≡ length table
 unfolding entered
-length_entered table m = go (found_in table m)
+length_entered table m = go (free_place table m)
   where
-    go : (f : Found) → length (put table m f) ≡ length table
-    go Marked = refl
-    go (Free at) = simp length-set
+    go : (f : Option ℕ) → length (put table m f) ≡ length table
+    go None = refl
+    go (Some at) = simp length-set
 
 pub sized_as : {table table₁ : List ℕ} → Sized table → length table₁ ≡ length table → Sized table₁
 sized_as s e = let a = s.some in let b = s.most in record { some = omega arith; most = omega arith }
 
 module _ (t : List ℕ) (m : ℕ) where
   -- an empty place is found for marks alone that are not 0, and by the walk
-  free_found : (i : ℕ) → found_in t m ≡ Free i → (m ≡ 0 → ⊥) × (from t m (length t) (m / span % span) ≡ Free i)
-  unfolding found_in
+  free_found : (i : ℕ) → free_place t m ≡ Some i → (m ≡ 0 → ⊥) × (from t m (length t) (m / span % span) ≡ Some i)
+  unfolding free_place
   free_found i e = go (eqb m 0) refl
     where
-      go : (x : Bool) → eqb m 0 ≡ x → (m ≡ 0 → ⊥) × (from t m (length t) (m / span % span) ≡ Free i)
-      go true p = let z : Marked ≡ Free i = rw p at e in let w : true ≡ false = ap is_there z in never (sym w)
+      go : (x : Bool) → eqb m 0 ≡ x → (m ≡ 0 → ⊥) × (from t m (length t) (m / span % span) ≡ Some i)
+      go true p = let z : None ≡ Some i = rw p at e in let w : true ≡ false = ap is_there z in never (sym w)
       go false p = (eqb-false m 0 p, rw p at e)
 
-  free_is : 0 < length t → (i : ℕ) → found_in t m ≡ Free i → (get_or t i 0 ≡ 0) × (i < length t)
-  free_is l i e = free_place t m l i (length t) (m / span % span) (omega arith) (free_found i e).1
+  free_is : 0 < length t → (i : ℕ) → free_place t m ≡ Some i → (get_or t i 0 ≡ 0) × (i < length t)
+  free_is l i e = from_empty t m l i (length t) (m / span % span) (omega arith) (free_found i e).1
 
-  pub free_below : 0 < length t → {f : Found} → f ≡ found_in t m → {i : ℕ} → f ≡ Free i → i < length t
+  pub free_below : 0 < length t → {f : Option ℕ} → f ≡ free_place t m → {i : ℕ} → f ≡ Some i → i < length t
   free_below l e {i} g = (free_is l i (sym e ∙ g)).1
 
   -- what is marked stays so
   filled_stays : (n i : ℕ) → is_marked t n ≡ true → get_or t i 0 ≡ 0 → (x : Bool) → eqb n 0 ≡ x → is_marked (set t i m) n ≡ true
-  unfolding is_marked found_in
+  unfolding is_marked free_place
   filled_stays n i e z true p = rw p
   filled_stays n i e z false p = rw (p, length-set) (there_stays t n (eqb-false n 0 p) i m z (length t) (n / span % span) (rw p at e))
 
   marked_stays : (n : ℕ) → 0 < length t → is_marked t n ≡ true → is_marked (entered t m) n ≡ true
   unfolding entered
-  marked_stays n l e = go (found_in t m) refl
+  marked_stays n l e = go (free_place t m) refl
     where
-      go : (f : Found) → found_in t m ≡ f → is_marked (put t m f) n ≡ true
-      go Marked p = e
-      go (Free i) p = filled_stays n i e (free_is l i p).0 (eqb n 0) refl
+      go : (f : Option ℕ) → free_place t m ≡ f → is_marked (put t m f) n ≡ true
+      go None p = e
+      go (Some i) p = filled_stays n i e (free_is l i p).0 (eqb n 0) refl
 
   -- what is entered is marked
   entered_marked : 0 < length t → is_marked (entered t m) m ≡ true
-  unfolding entered is_marked found_in
-  entered_marked l = go (found_in t m) refl
+  unfolding entered is_marked free_place
+  entered_marked l = go (free_place t m) refl
     where
-      go : (f : Found) → found_in t m ≡ f → is_marked (put t m f) m ≡ true
-      go Marked p = ap is_there p
-      go (Free i) p =
+      go : (f : Option ℕ) → free_place t m ≡ f → is_marked (put t m f) m ≡ true
+      go None p = ap is_there p
+      go (Some i) p =
           let q = free_found i p in
           rw (ne_eqb m 0 q.0, length-set) (filled_there t m i (free_is l i p).1 (length t) (m / span % span) q.1)
 

@@ -1,10 +1,8 @@
 -- A table of the marks of strings: what was entered is marked. What was not may be marked too.
 -- Assumes nothing.
-use Rattle.std.specs.Prelude.{ℕ, zero, suc, ◌+◌, ◌*◌, ◌/◌, ◌%◌, ◌<◌, ◌≡◌, Bool, true, false, cond, List, eqb, length, get_or, set}
+use Rattle.std.specs.Prelude.{ℕ, zero, suc, ◌+◌, ◌*◌, ◌/◌, ◌%◌, ◌<◌, ◌≡◌, Bool, true, false, cond, Option, Some, None, List, eqb, length, get_or, set}
 use Rattle.name.specs.Name.{is_one_of}
 use Rattle.view.specs.Marks.{mark_of}
-use Rattle.seen.specs.declared.Found.{Found}
-use Rattle.seen.specs.declared.Found.TheVariants.{Marked, Free}
 
 -- a mark is looked for at the places of numbers below this, 2^32
 abbrev pub span : ℕ
@@ -23,32 +21,33 @@ place_in size x = x * size / span
 abbrev pub next_of : ℕ → ℕ → ℕ → ℕ
 next_of size m x = (x + (m / 65536 % 4096 * 2 + 1) * (span / size)) % span
 
--- from a number on: the mark, or an empty place. After n places it counts as marked
-unfoldable pub from : List ℕ → ℕ → ℕ → ℕ → Found
-from table m zero x = Marked
+-- from a number on: the empty place, and none where the mark is met before one. After n places it counts as marked
+unfoldable pub from : List ℕ → ℕ → ℕ → ℕ → Option ℕ
+from table m zero x = None
 from table m (suc n) x =
     let at = place_in (length table) x in
     let on = from table m n (next_of (length table) m x) in
-    cond (eqb (get_or table at 0) m) Marked (cond (eqb (get_or table at 0) 0) (Free at) on)
+    cond (eqb (get_or table at 0) m) None (cond (eqb (get_or table at 0) 0) (Some at) on)
 
 -- 0 is an empty place, and so no mark that could be entered: it counts as marked
-unfoldable pub found_in : List ℕ → ℕ → Found
-found_in table m = let found = from table m (length table) (m / span % span) in cond (eqb m 0) Marked found
+unfoldable pub free_place : List ℕ → ℕ → Option ℕ
+free_place table m = let free = from table m (length table) (m / span % span) in cond (eqb m 0) None free
 
-abbrev pub is_there : Found → Bool
-is_there Marked = true
-is_there (Free at) = false
+-- where no place is free for it a mark is there
+abbrev pub is_there : Option ℕ → Bool
+is_there None = true
+is_there (Some at) = false
 
 unfoldable pub is_marked : List ℕ → ℕ → Bool
-is_marked table m = is_there (found_in table m)
+is_marked table m = is_there (free_place table m)
 
 -- a mark that is not there goes to the empty place
-abbrev pub put : List ℕ → ℕ → Found → List ℕ
-put table m Marked = table
-put table m (Free at) = set table at m
+abbrev pub put : List ℕ → ℕ → Option ℕ → List ℕ
+put table m None = table
+put table m (Some at) = set table at m
 
 unfoldable pub entered : List ℕ → ℕ → List ℕ
-entered table m = put table m (found_in table m)
+entered table m = put table m (free_place table m)
 
 -- each of the strings is marked
 pub record Holds (table : List ℕ) (taken : List (List ℕ)) : Type 0 where

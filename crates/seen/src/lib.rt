@@ -3,7 +3,7 @@
 #![tactic(auto)]
 
 ghost use Rattle.std.specs.Prelude.{◌≡◌, ◌<◌, ◌≤◌, length};
-ghost use Rattle.seen.specs.Seen.{span, Sized, place_in, next_of, found_in, is_marked, entered};
+ghost use Rattle.seen.specs.Seen.{span, Sized, place_in, next_of, free_place, is_marked, entered};
 
 use json_scan::Scan;
 
@@ -20,25 +20,12 @@ const SOME: usize = 4096;
 
 const MANY: usize = 8192;
 
-// Where a mark is looked for: it is there, or an empty place is.
-#[derive(Clone, Copy)]
-pub enum Found {
-    Marked,
-    Free(usize),
-}
-
-fn wide(n: usize) -> u64
-    ensures { result ≡ n }
-{
-    n as u64
-}
-
 // The place of a number in a table of so many places.
 fn place(size: usize, x: u64) -> usize
     requires { (0 < size) × (size < span) × (x < span) }
     ensures { (result ≡ place_in size x) × (result < size) }
 {
-    (x * wide(size) / SPAN) as usize
+    (x * size as u64 / SPAN) as usize
 }
 
 // The next number, an odd number of places on.
@@ -46,32 +33,31 @@ fn next(size: usize, mark: u64, x: u64) -> u64
     requires { (0 < size) × (x < span) }
     ensures { (result ≡ next_of size mark x) × (result < span) }
 {
-    let distance = (mark / 65536 % 4096 * 2 + 1) * (SPAN / wide(size));
+    let distance = (mark / 65536 % 4096 * 2 + 1) * (SPAN / size as u64);
     (x + distance) % SPAN
 }
 
-fn find(table: &[u64], mark: u64) -> Found
+// The empty place where a mark that is not there can be entered; none where it is there, or where that is not known.
+fn free_place(table: &[u64], mark: u64) -> Option<usize>
     requires { Sized table.now }
-    ensures { result ≡ found_in table.now mark }
+    ensures { result ≡ free_place table.now mark }
 {
     if mark == 0 {
-        return Found::Marked;
+        return None;
     }
     let mut x = mark / SPAN % SPAN;
-    let mut left = table.len();
-    while 0 < left {
+    for _turn in 0..table.len() {
         let at = place(table.len(), x);
         let held = table[at];
         if held == mark {
-            return Found::Marked;
+            return None;
         }
         if held == 0 {
-            return Found::Free(at);
+            return Some(at);
         }
         x = next(table.len(), mark, x);
-        left -= 1;
     }
-    Found::Marked
+    None
 }
 
 // Enters a mark. Was it there, or is that not known?
@@ -79,9 +65,9 @@ pub fn enter(table: &mut [u64], mark: u64) -> bool
     requires { Sized table.old }
     ensures { (result ≡ is_marked table.old mark) × (table.new ≡ entered table.old mark) }
 {
-    match find(table, mark) {
-        Found::Marked => true,
-        Found::Free(at) => {
+    match free_place(table, mark) {
+        None => true,
+        Some(at) => {
             table[at] = mark;
             false
         }
@@ -92,28 +78,12 @@ pub fn enter(table: &mut [u64], mark: u64) -> bool
 fn needed(bytes: usize) -> usize
     ensures { 0 < result }
 {
-    if bytes < FEW {
-        return FEW / SHARE;
+    match bytes {
+        0..FEW => FEW / SHARE,
+        FEW..SOME => SOME / SHARE,
+        SOME..MANY => MANY / SHARE,
+        _ => Scan::TEXT / SHARE,
     }
-    if bytes < SOME {
-        return SOME / SHARE;
-    }
-    if bytes < MANY {
-        return MANY / SHARE;
-    }
-    Scan::TEXT / SHARE
-}
-
-// The same, but no more than there are.
-fn at_most(bytes: usize, places: usize) -> usize
-    requires { 0 < places }
-    ensures { (0 < result) × (result ≤ places) }
-{
-    let n = needed(bytes);
-    if places < n {
-        return places;
-    }
-    n
 }
 
 // Empties the first places of the table, as many as the names of so many bytes of text need, or all.
@@ -121,11 +91,7 @@ pub fn forget(table: &mut [u64], bytes: usize) -> usize
     requires { Sized table.old }
     ensures { (0 < result) × (result ≤ length table.new) × (length table.new ≡ length table.old) }
 {
-    let n = at_most(bytes, table.len());
-    let mut i: usize = 0;
-    while i < n {
-        table[i] = 0;
-        i += 1;
-    }
+    let n = needed(bytes).min(table.len());
+    table[..n].fill(0);
     n
 }

@@ -1,14 +1,14 @@
--- `chains::short` meets its contract: the number of what is left, from the number so far on, is the whole number.
+-- `chains::short` meets its contract.
 -- Assumes nothing.
-use mathlib.Core.Path.{refl}
-use Rattle.chains.proofs.Shorts.{short_all, short_more}
+use mathlib.Core.Path.{◌≡◌, ◌∙◌}
+use Prim.Native.Nat.{◌+◌, ◌*◌, ◌%◌}
+use borrow.Author.Rules.{rules}
+use Rattle.std.specs.List.{fold}
+use Rattle.std.proofs.iter.runs.Made.{chains}
+use Rattle.chains.proofs.Numbers.{short_fold}
 use Rattle.chains.proofs.short.Goals as goal
 
-pub loop-i-init : goal.loop-i-init
-loop-i-init c = refl
-
-pub loop-i-preserved : goal.loop-i-preserved
-loop-i-preserved c = short_more _ _ _ _ c.loop-i.invariant c.loop-i-test.true c.wide.ensures.0
-
 pub returns : goal.returns
-returns c = short_all _ _ _ _ c.loop-i.invariant c.loop-i-test.false
+returns c =
+    let e : c.fold.result ≡ fold (λ h b. h % 72057594037927936 * 256 + b) 0 c.args.s.now = search (rules, chains) in
+    e ∙ short_fold 0 _

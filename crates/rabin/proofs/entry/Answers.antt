@@ -10,4 +10,4 @@ use Rattle.rabin.proofs.Entries.{entry_bits}
 use Rattle.rabin.proofs.entry.Goals as goal
 
 pub returns : goal.returns
-returns c = ap signed_of (ap (λ (t : List ℤ). bits_of (get_or t c.args.i (pos 0))) c.entries-t.ensures ∙ entry_bits c.args.i (pos 0) (search rules))
+returns c = rw c.from.ensures (ap signed_of (ap (λ (t : List ℤ). bits_of (get_or t c.args.i (pos 0))) c.entries.ensures ∙ entry_bits c.args.i (pos 0) (search rules)))

@@ -17,18 +17,19 @@ use Rattle.rabin.proofs.step.Goals as goal
 abbrev mixed : ℤ → ℕ → ℕ
 mixed s b = bit_xor (bits_of s) b
 
-pub overflow_cast-i-2 : goal.overflow_cast-i-2
-overflow_cast-i-2 c = byte_casts (mixed c.args.s c.args.b) w64 tt
+pub overflow_cast-i : goal.overflow_cast-i
+overflow_cast-i c = rw c.from.ensures (byte_casts (mixed c.args.s c.args.b) w64 tt)
 
 pub offset_bounds-t-i : goal.offset_bounds-t-i
-offset_bounds-t-i c = rw (byte_cast (mixed c.args.s c.args.b)) (record { fits = omega arith })
+offset_bounds-t-i c = rw (c.from.ensures, byte_cast (mixed c.args.s c.args.b)) (record { fits = omega arith })
 
 pub bounds-t-i : goal.bounds-t-i
-bounds-t-i c = rw (byte_cast (mixed c.args.s c.args.b)) (omega arith)
+bounds-t-i c = rw (c.from.ensures, byte_cast (mixed c.args.s c.args.b)) (omega arith)
 
 pub returns : goal.returns
 unfolding byte_step byte_bits
 returns c =
-    ap signed_of
+    rw c.from.ensures
+    (ap signed_of
     (ap₂ bit_xor (shr_8 c.args.s c.ranges.s)
-    (ap₂ (λ (t : List ℤ) (i : ℕ). bits_of (get_or t i (pos 0))) c.requires (byte_cast (mixed c.args.s c.args.b)) ∙ entry_bits _ _ (omega arith)))
+    (ap₂ (λ (t : List ℤ) (i : ℕ). bits_of (get_or t i (pos 0))) c.requires (byte_cast (mixed c.args.s c.args.b)) ∙ entry_bits _ _ (omega arith))))

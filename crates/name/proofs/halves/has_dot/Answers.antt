@@ -1,6 +1,7 @@
 -- `name::halves::has_dot` meets its contract. Assumes nothing.
-use Rattle.name.proofs.halves.Start.{dot_start}
+use mathlib.Core.Path.{◌∙◌}
+use Rattle.name.proofs.halves.Dots.{dot_any}
 use Rattle.name.proofs.halves.has_dot.Goals as goal
 
 pub returns : goal.returns
-returns c = rw c.last_start.ensures (dot_start _)
+returns c = c.contains.ensures.value ∙ dot_any _
