@@ -10,6 +10,3 @@ use Rattle.canonical.proofs.places.place_with.Given as goal
 
 abbrev pub invariant-loop-place : goal.invariant-loop-place
 invariant-loop-place l = (length l.text ≡ text_limit) × (place_with l.print (decode l.mem) ≡ l.place + place_with l.print (drop l.place (decode l.mem)))
-
-abbrev pub decreases-loop-place : goal.decreases-loop-place
-decreases-loop-place l = l.n - l.place

@@ -34,7 +34,7 @@ write_parts-loop-part-smaller t c = omega (arith, under_before _ 0 _ _ true _ (s
 pub write_parts-loop-part-preserved : goal.write_parts-loop-part-preserved
 write_parts-loop-part-preserved t c =
     elim c.if-is_part.branch [
-      | write_parts-then-is_part w ↦ turn_part _ _ _ _ _ _ c.loop-part.invariant (sym c.is_under.ensures ∙ c.loop-part-test.true) (sym c.is_part.ensures ∙ w.if-is_part.true) w.comma-to.ensures _ _ _ w.least-from.ensures w.write_piece.ensures _ _ _ w.part-is w.at-is w.first-is
+      | write_parts-then-is_part w ↦ turn_part _ _ _ _ _ _ c.loop-part.invariant (sym c.is_under.ensures ∙ c.loop-part-test.true) (sym c.is_part.ensures ∙ w.if-is_part.true) w.comma-to.ensures _ _ _ w.min-from.ensures w.write_piece.ensures _ _ _ w.part-is w.at-is w.first-is
       | write_parts-else-is_part w ↦ turn_skip _ _ _ _ _ _ c.loop-part.invariant (sym c.is_under.ensures ∙ c.loop-part-test.true) (sym c.is_part.ensures ∙ w.if-is_part.false) _ _ _ w.part-is w.at-is w.first-is
     ]
 
@@ -51,16 +51,16 @@ pub write_piece-opening-at-requires : goal.write_piece-opening-at-requires
 write_piece-opening-at-requires t c = name_fits _ _ _ c.string_of.ensures.0 c.requires.0
 
 pub write_piece-write_parts-requires : goal.write_piece-write_parts-requires
-write_piece-write_parts-requires t c = (omega arith, (c.requires.0, c.requires.2, search rules, omega (arith, pieces_fit _ _ _ _ c.if-left-eq0.false c.requires.1 _ c.read_row-e.ensures _ c.string_of.ensures.0 _ c.requires.3)))
+write_piece-write_parts-requires t c = (omega arith, (c.requires.0, c.requires.2, search rules, rw c.from-depth.ensures (omega (arith, pieces_fit _ _ _ _ c.if-left-eq0.false c.requires.1 _ c.read_row-e.ensures _ c.string_of.ensures.0 _ c.requires.3))))
 
 pub write_piece-overflow_add-to : goal.write_piece-overflow_add-to
-write_piece-overflow_add-to t c = omega (arith, c.opening-at.ensures.end, c.write_parts.ensures.end, pieces_fit _ _ _ _ c.if-left-eq0.false c.requires.1 _ c.read_row-e.ensures _ c.string_of.ensures.0 _ c.requires.3)
+write_piece-overflow_add-to t c = omega (arith, c.opening-at.ensures.end, (rw c.from-depth.ensures at c.write_parts.ensures).end, pieces_fit _ _ _ _ c.if-left-eq0.false c.requires.1 _ c.read_row-e.ensures _ c.string_of.ensures.0 _ c.requires.3)
 
 pub write_piece-overflow_add-result : goal.write_piece-overflow_add-result
-write_piece-overflow_add-result t c = omega (arith, c.opening-at.ensures.end, c.write_parts.ensures.end, c.closing.ensures.end, pieces_fit _ _ _ _ c.if-left-eq0.false c.requires.1 _ c.read_row-e.ensures _ c.string_of.ensures.0 _ c.requires.3)
+write_piece-overflow_add-result t c = omega (arith, c.opening-at.ensures.end, (rw c.from-depth.ensures at c.write_parts.ensures).end, c.closing.ensures.end, pieces_fit _ _ _ _ c.if-left-eq0.false c.requires.1 _ c.read_row-e.ensures _ c.string_of.ensures.0 _ c.requires.3)
 
 pub write_piece-returns : goal.write_piece-returns
 write_piece-returns t c =
     wrote_eq (text_some _ _ _ _ c.if-left-eq0.false c.requires.1 _ c.read_row-e.ensures)
     (wrote_then (wrote_eq (opening_name _ _ _ _ c.string_of.ensures.0) c.opening-at.ensures)
-    (wrote_then (wrote_lent _ _ _ _ _ _ c.least-from.ensures c.write_parts.ensures) (wrote_lent _ _ _ _ _ _ c.least-last.ensures c.closing.ensures)))
+    (wrote_then (wrote_lent _ _ _ _ _ _ c.min-from.ensures (rw c.from-depth.ensures at c.write_parts.ensures)) (wrote_lent _ _ _ _ _ _ c.min-last.ensures c.closing.ensures)))
