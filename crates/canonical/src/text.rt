@@ -3,7 +3,7 @@ ghost use Rattle.std.specs.Prelude.{◌≡◌, cond, [], ◌+◌, ◌≤◌, ◌
 ghost use Rattle.ground.specs.Ascii.{ascii};
 ghost use Rattle.row.specs.Layout.{row_limit, layout_length};
 ghost use Rattle.canonical.specs.Canonical.{is_written};
-ghost use Rattle.canonical.specs.Walk.{piece_text, parts_text, is_under, is_part, text_limit};
+ghost use Rattle.canonical.specs.Walk.{piece_text, parts_text, is_part, text_limit};
 ghost use Rattle.canonical.specs.Wrote.{Wrote};
 
 use crate::pieces::{closing, opening, put};
@@ -18,16 +18,7 @@ fn is_written(kind: Kind) -> bool
     !matches!(kind, Kind::Alias | Kind::FieldAlias)
 }
 
-// Does row i, like all rows between, still stand under the row of a depth?
-#[tactic(auto, unfolding(crate::specs::Walk::is_under))]
-fn is_under(mem: &[u8], end: usize, depth: usize, i: usize) -> bool
-    requires { (length mem.now ≡ layout_length) × (end ≤ row_limit) }
-    ensures { result ≡ is_under mem.now end depth i }
-{
-    i < end && depth < depth_at(mem, i)
-}
-
-// Is it one of that row's parts?
+// Is row i one of the parts of a row of a depth that it stands under?
 #[tactic(auto, unfolding(crate::specs::Walk::is_part))]
 fn is_part(mem: &[u8], depth: usize, i: usize) -> bool
     requires { (length mem.now ≡ layout_length) × (i < row_limit) × (depth < 65536) }
@@ -59,15 +50,16 @@ fn write_parts(
 {
     let mut at = 0;
     let mut first = true;
-    let mut i = start;
-    while is_under(mem, end, depth, i) {
+    for i in start..end {
+        if depth_at(mem, i) <= depth {
+            return at;
+        }
         if is_part(mem, depth, i) {
             let to = comma(first, at, part);
             let from = to.min(part.len());
             at = to + write_piece(mem, i, end, left, &mut part[from..]);
             first = false;
         }
-        i += 1;
     }
     at
 }

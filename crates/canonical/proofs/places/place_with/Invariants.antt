@@ -1,7 +1,7 @@
 -- `canonical::places::place_with` meets its contract: the places before the one at hand, and the search from it on.
 -- Assumes nothing.
 use mathlib.Core.Path.{◌≡◌}
-use Prim.Native.Nat.{◌+◌, ◌-◌}
+use Prim.Native.Nat.{◌+◌}
 use lib.ListN.{length, drop}
 use Rattle.row.specs.Sets.{decode}
 use Rattle.canonical.specs.Walk.{text_limit}
