@@ -5,14 +5,14 @@ use mathlib.Core.Bool.{Bool, true, false, cond}
 use mathlib.Core.List.{List, [], ◌∷◌, ◌++◌}
 use Prim.Native.Nat.{ℕ, zero, suc, ◌+◌, ◌-◌, ◌*◌, ◌<◌, ◌≤◌}
 use native.Mathlib.Nat.{sub-zero}
-use native.Mathlib.Decide.{dec_le}
 use native.Mathlib.Omega.{arith}
 use lib.Dec.{leb, ltb}
 use lib.ListN.{length, take, drop, get_or, length-append, take-append-drop}
 use lib.Seq.{drop-cons, length-take-le, take_at}
 use lib.IntN.{ℤ}
 use borrow.Rule.Slice.PartMut.{mid_of, put_mid}
-use borrow.Author.Tests.{ltb-true, lt-ltb, le-ltb, le-leb, lt-leb, leb-true}
+use borrow.Author.Tests.{ltb-true, lt-ltb, le-ltb, leb-true}
+use Rattle.std.specs.Prelude.{Result, Ok, Err}
 use Rattle.answer.specs.declared.refusal.Why.TheVariants.{NotWellFormed, NoSuchPlace, NoRoom}
 use Rattle.answer.specs.declared.refusal.Refusal.{Refusal}
 use Rattle.answer.specs.Answers.{accepted, of_refusal}
@@ -32,10 +32,6 @@ use Rattle.resolve.proofs.Laws.{every_append}
 use Rattle.formed.proofs.Laws.{exact, good_within}
 use Rattle.canonical.specs.Canonical.{text_of, canonical_of}
 use Rattle.canonical.specs.Calls.{Found, found, refused, refusal, rows_at, text_at, written_at, numbers_of_written, length_of, buffer_after, numbers_of_print, print_of}
-use Rattle.canonical.specs.declared.answers.Written.{Written}
-use Rattle.canonical.specs.declared.answers.Written.TheVariants.{Length, Refused}
-use Rattle.canonical.specs.declared.answers.Print.{Print}
-use Rattle.canonical.specs.declared.answers.Print.TheVariants.{Fingerprint, Refused as NoPrint}
 use Rattle.canonical.specs.Wrote.{Wrote}
 use Rattle.canonical.specs.Walk.{piece_text, text_limit, row_cost}
 use Rattle.rabin.specs.Rabin.{rabin_of}
@@ -156,14 +152,14 @@ abbrev canonical_at : List ℕ → ℕ → List ℕ
 canonical_at m place = canonical_of (rows_at (decode m) place)
 
 module _ (m : List ℕ) (place : ℕ) where
-  pub length_broken : well_formed m ≡ false → of_refusal (refusal NotWellFormed place 0) ≡ length_of (text_at m place)
-  unfolding text_at length_of
-  length_broken w = rw w
+  pub text_broken : well_formed m ≡ false → text_at m place ≡ refused (refusal NotWellFormed place 0)
+  unfolding text_at
+  text_broken w = rw w
 
   module _ (w : well_formed m ≡ true) where
-    pub length_absent : (n : ℕ) → n ≡ count_in m → n ≤ place → of_refusal (refusal NoSuchPlace place 0) ≡ length_of (text_at m place)
-    unfolding text_at length_of
-    length_absent n e h = let k : length (decode m) ≤ place = omega (arith, formed_count m w) in rw (w, le-ltb place (length (decode m)) k)
+    pub text_absent : (n : ℕ) → n ≡ count_in m → n ≤ place → text_at m place ≡ refused (refusal NoSuchPlace place 0)
+    unfolding text_at
+    text_absent n e h = let k : length (decode m) ≤ place = omega (arith, formed_count m w) in rw (w, le-ltb place (length (decode m)) k)
 
     pub place_counted : (n : ℕ) → n ≡ count_in m → place < n → place < length (decode m)
     place_counted n e h = omega (arith, formed_count m w)
@@ -175,6 +171,15 @@ module _ (m : List ℕ) (place : ℕ) where
     pub length_found : place < length (decode m) → (n : ℕ) → n ≡ 0 + length (canonical_at m place) → accepted n 0 0 ≡ length_of (text_at m place)
     unfolding length_of
     length_found l n e = rw (text_found l) (ap (λ (k : ℕ). accepted k 0 0) (omega arith))
+
+  -- a refusal is told as it is
+  pub length_refused : {r : Refusal} → text_at m place ≡ refused r → of_refusal r ≡ length_of (text_at m place)
+  unfolding length_of
+  length_refused e = rw e
+
+  pub print_refused : {r : Refusal} → text_at m place ≡ refused r → numbers_of_print (Err r) ≡ print_of (text_at m place)
+  unfolding print_of
+  print_refused e = rw e
 
   -- what a length tells
   pub length_told : (n : ℕ) → accepted n 0 0 ≡ length_of (text_at m place) → (well_formed m ≡ true) × (place < length (decode m)) × (n ≡ length (canonical_at m place))
@@ -200,7 +205,7 @@ module _ (m : List ℕ) (place : ℕ) where
   -- ---- into a buffer
 
   module _ (offset : ℕ) (b : List ℕ) where
-    pub canonical_refused : {a : Written} {r : Refusal} → a ≡ Refused r → numbers_of_written a ≡ length_of (text_at m place) → (of_refusal r ≡ length_of (written_at m place offset (length b))) × (b ≡ buffer_after (written_at m place offset (length b)) b offset)
+    pub canonical_refused : {a : Result ℕ Refusal} {r : Refusal} → a ≡ Err r → numbers_of_written a ≡ length_of (text_at m place) → (of_refusal r ≡ length_of (written_at m place offset (length b))) × (b ≡ buffer_after (written_at m place offset (length b)) b offset)
     unfolding written_at length_of buffer_after
     canonical_refused {r = r} g e = rw (refused_told r (sym (ap numbers_of_written g) ∙ e)) (refl, refl)
 
@@ -229,19 +234,11 @@ module _ (m : List ℕ) (place : ℕ) where
 
   -- ---- the fingerprint
 
-  pub print_broken : well_formed m ≡ false → numbers_of_print (NoPrint (refusal NotWellFormed place 0)) ≡ print_of (text_at m place)
-  unfolding text_at print_of
-  print_broken w = rw w
-
   module _ (w : well_formed m ≡ true) where
-    pub print_absent : (n : ℕ) → n ≡ count_in m → n ≤ place → numbers_of_print (NoPrint (refusal NoSuchPlace place 0)) ≡ print_of (text_at m place)
-    unfolding text_at print_of
-    print_absent n e h = let k : length (decode m) ≤ place = omega (arith, formed_count m w) in rw (w, le-ltb place (length (decode m)) k)
-
     module _ (l : place < length (decode m)) where
-      pub print_found : (x : ℤ) → x ≡ rabin_of (canonical_at m place) → numbers_of_print (Fingerprint x) ≡ print_of (text_at m place)
+      pub print_found : (x : ℤ) → x ≡ rabin_of (canonical_at m place) → numbers_of_print (Ok x) ≡ print_of (text_at m place)
       unfolding print_of
-      print_found x q = rw (text_found w l) (ap (λ (f : ℤ). numbers_of_print (Fingerprint f)) q)
+      print_found x q = rw (text_found w l) (ap (λ (f : ℤ). numbers_of_print (Ok f)) q)
 
       -- a buffer that has room for any text holds this one in front
       module _ (b b' : List ℕ) (n : ℕ) (h : length b ≡ text_limit) (g : Wrote b 0 b' n (canonical_at m place)) where
@@ -258,26 +255,14 @@ module _ (m : List ℕ) (place : ℕ) where
 
 -- ---- the numbers tell the answer
 
-pub written_one : (a b : Written) → numbers_of_written a ≡ numbers_of_written b → a ≡ b
-written_one (Length n) (Length k) e = ap Length (first e)
-written_one (Length n) (Refused s) e = absurd (never_both s _ _ _ (sym e))
-written_one (Refused r) (Length k) e = absurd (never_both r _ _ _ e)
-written_one (Refused r) (Refused s) e = ap Refused (refusal_one r s e)
+pub written_one : (a b : Result ℕ Refusal) → numbers_of_written a ≡ numbers_of_written b → a ≡ b
+written_one (Ok n) (Ok k) e = ap Ok (first e)
+written_one (Ok n) (Err s) e = absurd (never_both s _ _ _ (sym e))
+written_one (Err r) (Ok k) e = absurd (never_both r _ _ _ e)
+written_one (Err r) (Err s) e = ap Err (refusal_one r s e)
 
-pub print_one : (a b : Print) → numbers_of_print a ≡ numbers_of_print b → a ≡ b
-print_one (Fingerprint f) (Fingerprint g) e = λ i. Fingerprint (e i).1
-print_one (Fingerprint f) (NoPrint s) e = absurd (never_both s _ _ _ (λ i. (sym e i).0))
-print_one (NoPrint r) (Fingerprint g) e = absurd (never_both r _ _ _ (λ i. (e i).0))
-print_one (NoPrint r) (NoPrint s) e = ap NoPrint (refusal_one r s (λ i. (e i).0))
-
--- ---- room
-
-pub room_short : (n offset room : ℕ) → room < n → false ≡ leb (offset + n) room
-room_short n offset room h = sym (lt-leb (offset + n) room (omega arith))
-
-pub room_test : (n offset room : ℕ) → n ≤ room → leb offset (room - n) ≡ leb (offset + n) room
-room_test n offset room h = go (dec_le offset (room - n))
-  where
-    go : Dec (offset ≤ room - n) → leb offset (room - n) ≡ leb (offset + n) room
-    go (yes p) = le-leb offset (room - n) p ∙ sym (le-leb (offset + n) room (omega arith))
-    go (no p) = lt-leb offset (room - n) (omega arith) ∙ sym (lt-leb (offset + n) room (omega arith))
+pub print_one : (a b : Result ℤ Refusal) → numbers_of_print a ≡ numbers_of_print b → a ≡ b
+print_one (Ok f) (Ok g) e = λ i. Ok (e i).1
+print_one (Ok f) (Err s) e = absurd (never_both s _ _ _ (λ i. (sym e i).0))
+print_one (Err r) (Ok g) e = absurd (never_both r _ _ _ (λ i. (e i).0))
+print_one (Err r) (Err s) e = ap Err (refusal_one r s (λ i. (e i).0))

@@ -48,17 +48,20 @@ pub decimal_short : (n : ℕ) → length (decimal n) ≤ 20
 unfolding decimal
 decimal_short n = few_digits 20 n
 
--- ---- the digits are counted: n of `size` are, and those of `rest` are left, the first of which is counted too
+-- ---- the digits are counted, by the powers of ten
 
-module _ (size rest n : ℕ) (inv : n + length (decimal rest) ≡ length (decimal size) + 1) where
-  pub count_fits : n ≤ 21
-  count_fits = omega (arith, decimal_short size)
-
-  pub count_turn : 10 ≤ rest → rest < 2 ^ 64 → n + 1 + length (decimal (rest / 10)) ≡ length (decimal size) + 1
-  count_turn h l = omega (arith, decimal_longer rest h l)
-
-  pub count_end : rest < 10 → n ≡ length (decimal size)
-  count_end h = omega (arith, ap length (decimal_small rest h))
+pub count_is : (k n : ℕ) → n < 2 ^ 64 → 10 ^ k ≤ n → n < 10 * 10 ^ k → k + 1 ≡ length (decimal n)
+count_is zero n l h u = sym (ap length (decimal_small n u))
+count_is (suc k) n l h u =
+    let a : 10 ^ k * 10 ≤ n = rw pow-suc at h in
+    let b : n < 10 * (10 ^ k * 10) = rw pow-suc at u in
+    let p = pow_pos_ten k in
+    let e = count_is k (n / 10) (omega arith) (omega arith) (omega arith) in
+    omega (arith, decimal_longer n (omega arith) l)
+  where
+    pow_pos_ten : (k : ℕ) → 1 ≤ 10 ^ k
+    pow_pos_ten zero = omega arith
+    pow_pos_ten (suc k) = let h = pow_pos_ten k in rw pow-suc (omega arith)
 
 -- ---- the digits are written: the last one behind those of a tenth
 

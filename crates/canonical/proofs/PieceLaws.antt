@@ -22,7 +22,6 @@ use Rattle.row.specs.contracts.kind.Kind.{the_type}
 use Rattle.row.specs.declared.kind.Kind.TheVariants.{Null, Boolean, Int, Long, Float, Double, Bytes, String, Reference, Array, Map, Union, Record, Enum, Fixed, Field, Symbol, Alias, FieldAlias}
 use Rattle.canonical.specs.Decimal.{decimal}
 use Rattle.resolve.specs.Kinds.{is_kind, is_primitive}
-use Rattle.canonical.specs.Canonical.{is_written}
 use Rattle.canonical.specs.Pieces.{quoted, named, opening, closing}
 use Rattle.canonical.specs.Walk.{word_of}
 use Rattle.canonical.proofs.DecimalLaws.{decimal_short}
@@ -95,13 +94,6 @@ name_fits m i s e h =
     omega (arith, ap length e, length-take (text_length (from_row m i)) (drop a l), length-drop a l, length-drop strings_start m)
 
 -- ---- the arms
-
-abbrev pub shown : List ℕ
-shown = 0 ∷ 1 ∷ 2 ∷ 3 ∷ 4 ∷ 5 ∷ 6 ∷ 7 ∷ 8 ∷ 9 ∷ 10 ∷ 11 ∷ 12 ∷ 13 ∷ 14 ∷ 15 ∷ 16 ∷ []
-
-pub written_told : (k : Kind) → OneOf shown (tag_of the_type k) → true ≡ is_written k
-unfolding every is_written is_kind
-written_told k h = sym (told is_written shown refl k h)
 
 abbrev braced : List ℕ
 braced = 9 ∷ 10 ∷ 14 ∷ 15 ∷ []

@@ -8,18 +8,17 @@ use native.Mathlib.Omega.{arith}
 use lib.Dec.{ltb}
 use lib.ListN.{length, length-append}
 use borrow.Rule.Slice.PartMut.{mid_of, put_mid}
-use borrow.Author.Tests.{ltb-true, ltb-false, lt-ltb, le-ltb, eq-eqb, ne_eqb}
+use borrow.Author.Tests.{ltb-true, ltb-false, lt-ltb, le-ltb}
 use Rattle.ground.specs.Ascii.{ascii}
 use Rattle.ground.proofs.Laws.{and_true}
 use Rattle.row.specs.Rows.{Row}
 use Rattle.row.specs.Sets.{rows_from}
 use Rattle.row.specs.Memory.{entry_at, text_at, row_at}
 use Rattle.row.specs.declared.Entry.{Entry}
-use Rattle.row.specs.declared.kind.Kind.{Kind}
 use Rattle.resolve.specs.Rules.{under}
 use Rattle.resolve.proofs.MemoryLaws.{rows_next, rows_end}
 use Rattle.canonical.specs.Pieces.{opening, closing}
-use Rattle.canonical.specs.Canonical.{is_written, starts_at, parts_of, listed, text_of}
+use Rattle.canonical.specs.Canonical.{starts_at, parts_of, listed, text_of}
 use Rattle.canonical.specs.Walk.{piece_text, parts_text, is_under, is_part}
 use Rattle.canonical.specs.Wrote.{Wrote}
 use Rattle.canonical.proofs.TextLaws.{text_cut}
@@ -158,19 +157,15 @@ module _ (m : List ℕ) (left i end : ℕ) (h : left ≡ 0 → ⊥) (l : i < end
 -- ---- the two tests of a row
 
 module _ (m : List ℕ) (end d i : ℕ) where
-  pub under_past : end ≤ i → false ≡ is_under m end d i
+  pub under_past : end ≤ i → is_under m end d i ≡ false
   unfolding is_under
   under_past h = rw (le-ltb i end h)
 
-  pub under_test : i < end → (y : ℕ) → y ≡ (entry_at m i).depth → ltb d y ≡ is_under m end d i
-  unfolding is_under
-  under_test h y e = rw (e, lt-ltb i end h)
+  module _ (l : i < end) (y : ℕ) (e : y ≡ (entry_at m i).depth) where
+    pub under_here : d < y → is_under m end d i ≡ true
+    unfolding is_under
+    under_here h = rw (← e, lt-ltb i end l, lt-ltb d y h)
 
-module _ (m : List ℕ) (d i y : ℕ) (e : y ≡ (entry_at m i).depth) where
-  pub part_other : (y ≡ d + 1 → ⊥) → false ≡ is_part m d i
-  unfolding is_part
-  part_other h = rw (ne_eqb (entry_at m i).depth (d + 1) (λ z. h (e ∙ z)))
-
-  pub part_test : y ≡ d + 1 → (k : Kind) → k ≡ (entry_at m i).kind → is_written k ≡ is_part m d i
-  unfolding is_part
-  part_test h k f = rw (f, eq-eqb (entry_at m i).depth (d + 1) (sym e ∙ h))
+    pub under_stop : y ≤ d → is_under m end d i ≡ false
+    unfolding is_under
+    under_stop h = rw (← e, lt-ltb i end l, le-ltb d y h)

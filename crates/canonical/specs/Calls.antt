@@ -1,6 +1,6 @@
 -- Canonical text and fingerprint of the declaration at a place of a set's memory.
 -- Assumes nothing.
-use Rattle.std.specs.Prelude.{ℕ, zero, suc, ◌+◌, cond, List, [], ◌∷◌, leb, ltb, ℤ, pos, length}
+use Rattle.std.specs.Prelude.{ℕ, zero, suc, ◌+◌, cond, List, [], ◌∷◌, leb, ltb, ℤ, pos, length, Result, Ok, Err}
 use Rattle.answer.specs.declared.refusal.Why.{Why}
 use Rattle.answer.specs.declared.refusal.Why.TheVariants.{NotWellFormed, NoSuchPlace, NoRoom}
 use Rattle.answer.specs.declared.refusal.Refusal.{Refusal}
@@ -12,10 +12,6 @@ use Rattle.row.specs.Rows.{Row}
 use Rattle.row.specs.Sets.{decode}
 use Rattle.formed.specs.WellFormed.{well_formed}
 use Rattle.canonical.specs.Canonical.{canonical_of}
-use Rattle.canonical.specs.declared.answers.Written.{Written}
-use Rattle.canonical.specs.declared.answers.Written.TheVariants as text
-use Rattle.canonical.specs.declared.answers.Print.{Print}
-use Rattle.canonical.specs.declared.answers.Print.TheVariants as print
 
 -- the canonical text at a place, or a refusal
 pub data Found : Type 0 where
@@ -49,9 +45,9 @@ written_at m place offset room = in_room (text_at m place) place offset room
 -- ---- what is answered, in 01's numbers: 0 and the text's length, or the refusal's number, place and position
 
 -- the contracts read an answer by them, for each of its cases; they tell the answer (laws `written_one`, `print_one`)
-abbrev pub numbers_of_written : Written → Numbers
-numbers_of_written (text.Length n) = accepted n 0 0
-numbers_of_written (text.Refused r) = of_refusal r
+abbrev pub numbers_of_written : Result ℕ Refusal → Numbers
+numbers_of_written (Ok n) = accepted n 0 0
+numbers_of_written (Err r) = of_refusal r
 
 unfoldable pub length_of : Found → Numbers
 length_of (found s) = accepted (length s) 0 0
@@ -63,9 +59,9 @@ buffer_after (found s) buffer offset = store buffer offset s
 buffer_after (refused r) buffer offset = buffer
 
 -- beside the numbers the fingerprint, 0 where it is refused
-abbrev pub numbers_of_print : Print → Numbers × ℤ
-numbers_of_print (print.Fingerprint f) = (accepted 0 0 0, f)
-numbers_of_print (print.Refused r) = (of_refusal r, pos 0)
+abbrev pub numbers_of_print : Result ℤ Refusal → Numbers × ℤ
+numbers_of_print (Ok f) = (accepted 0 0 0, f)
+numbers_of_print (Err r) = (of_refusal r, pos 0)
 
 unfoldable pub print_of : Found → Numbers × ℤ
 print_of (found s) = (accepted 0 0 0, rabin_of s)

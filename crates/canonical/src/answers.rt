@@ -1,12 +1,9 @@
-// What the calls answer.
-use answer::{Counts, Refusal};
+// The limit of a canonical text.
+use answer::Counts;
 
-// The canonical text's length, or a refusal.
+// How long a canonical text may be.
 #[derive(Clone, Copy)]
-pub enum Written {
-    Length(usize),
-    Refused(Refusal),
-}
+pub struct Written {}
 
 impl Written {
     // A row takes at most so many bytes, beside its string.
@@ -14,11 +11,4 @@ impl Written {
 
     // No canonical text is longer.
     pub const LONGEST: usize = Written::ROW * Counts::ROWS + Counts::STRING_BYTES;
-}
-
-// The canonical text's fingerprint, or a refusal.
-#[derive(Clone, Copy)]
-pub enum Print {
-    Fingerprint(i64),
-    Refused(Refusal),
 }

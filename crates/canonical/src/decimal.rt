@@ -10,13 +10,10 @@ use ground::copy;
 fn digits_length(size: u64) -> usize
     ensures { result ≡ length (decimal size) }
 {
-    let mut rest = size;
-    let mut n = 1;
-    while 10 <= rest {
-        rest /= 10;
-        n += 1;
+    match size.checked_ilog10() {
+        Some(k) => k as usize + 1,
+        None => 1,
     }
-    n
 }
 
 // Its n digits: those of a tenth of it, then the last.

@@ -8,6 +8,6 @@ mod pieces;
 mod places;
 mod text;
 
-pub use answers::{Print, Written};
+pub use answers::Written;
 pub use calls::{canonical, canonical_length, fingerprint};
 pub use places::place_with;

@@ -1,5 +1,5 @@
 // What each row writes into the part of the buffer that it is lent, before its parts and behind them.
-ghost use Rattle.std.specs.Prelude.{◌≡◌, ◌++◌, ◌+◌, ◌≤◌, min, length};
+ghost use Rattle.std.specs.Prelude.{◌≡◌, ◌++◌, ◌+◌, ◌≤◌, length};
 ghost use Rattle.row.specs.Layout.{string_limit};
 ghost use Rattle.row.specs.declared.kind.Kind.TheVariants.{Fixed};
 ghost use Rattle.canonical.specs.Pieces.{quoted, named, opening, closing};
@@ -9,12 +9,6 @@ ghost use Rattle.canonical.specs.Wrote.{Wrote};
 use crate::decimal::write_decimal;
 use ground::copy;
 use row::Kind;
-
-pub(crate) fn least(a: usize, b: usize) -> usize
-    ensures { result ≡ min a b }
-{
-    if a < b { a } else { b }
-}
 
 // Stores s from `at` on, as far as there is room. The place behind it comes back.
 pub(crate) fn put(part: &mut [u8], at: usize, s: &[u8]) -> usize
@@ -50,7 +44,7 @@ fn fixed(name: &[u8], size: u64, part: &mut [u8]) -> usize
     ensures { Wrote part.old 0 part.new result (opening Fixed name.now size) }
 {
     let at = named(name, b",\"type\":\"fixed\",\"size\":", part);
-    let from = least(at, part.len());
+    let from = at.min(part.len());
     at + write_decimal(size, &mut part[from..])
 }
 

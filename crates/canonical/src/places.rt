@@ -34,12 +34,10 @@ pub fn place_with(mem: &[u8], print: &[u8]) -> usize
 {
     let n = declarations(mem);
     let mut text = [0u8; Written::LONGEST];
-    let mut place = 0;
-    while place < n {
+    for place in 0..n {
         if has_print(mem, place, print, &mut text) {
             return place;
         }
-        place += 1;
     }
-    place
+    n
 }

@@ -3,44 +3,28 @@ ghost use Rattle.std.specs.Prelude.{◌≡◌, cond, [], ◌+◌, ◌≤◌, ◌
 ghost use Rattle.ground.specs.Ascii.{ascii};
 ghost use Rattle.row.specs.Layout.{row_limit, layout_length};
 ghost use Rattle.canonical.specs.Canonical.{is_written};
-ghost use Rattle.canonical.specs.Walk.{piece_text, parts_text, is_under, is_part, text_limit};
+ghost use Rattle.canonical.specs.Walk.{piece_text, parts_text, is_part, text_limit};
 ghost use Rattle.canonical.specs.Wrote.{Wrote};
 
-use crate::pieces::{closing, least, opening, put};
+use crate::pieces::{closing, opening, put};
 use row::Kind;
 use row::read::{depth_at, kind_at, read_row, string_of};
 
 // Aliases are dropped.
+#[tactic(auto, unfolding(crate::specs::Canonical::is_written, resolve::specs::Kinds::is_kind))]
 fn is_written(kind: Kind) -> bool
     ensures { result ≡ is_written kind }
 {
-    match kind {
-        Kind::Alias => false,
-        Kind::FieldAlias => false,
-        _ => true,
-    }
+    !matches!(kind, Kind::Alias | Kind::FieldAlias)
 }
 
-// Does row i, like all rows between, still stand under the row of a depth?
-fn is_under(mem: &[u8], end: usize, depth: usize, i: usize) -> bool
-    requires { (length mem.now ≡ layout_length) × (end ≤ row_limit) }
-    ensures { result ≡ is_under mem.now end depth i }
-{
-    if end <= i {
-        return false;
-    }
-    depth < depth_at(mem, i)
-}
-
-// Is it one of that row's parts?
+// Is row i one of the parts of a row of a depth that it stands under?
+#[tactic(auto, unfolding(crate::specs::Walk::is_part))]
 fn is_part(mem: &[u8], depth: usize, i: usize) -> bool
     requires { (length mem.now ≡ layout_length) × (i < row_limit) × (depth < 65536) }
     ensures { result ≡ is_part mem.now depth i }
 {
-    if depth_at(mem, i) != depth + 1 {
-        return false;
-    }
-    is_written(kind_at(mem, i))
+    depth_at(mem, i) == depth + 1 && is_written(kind_at(mem, i))
 }
 
 // A comma stands before each part but the first.
@@ -48,10 +32,7 @@ fn comma(first: bool, at: usize, part: &mut [u8]) -> usize
     requires { at ≤ text_limit }
     ensures { Wrote part.old at part.new result (cond first [] (ascii ",")) }
 {
-    if first {
-        return at;
-    }
-    put(part, at, b",")
+    if first { at } else { put(part, at, b",") }
 }
 
 // The parts of a row of a depth, with commas between: of the rows from `start` on that stand under it, those one deeper.
@@ -69,15 +50,16 @@ fn write_parts(
 {
     let mut at = 0;
     let mut first = true;
-    let mut i = start;
-    while is_under(mem, end, depth, i) {
+    for i in start..end {
+        if depth_at(mem, i) <= depth {
+            return at;
+        }
         if is_part(mem, depth, i) {
             let to = comma(first, at, part);
-            let from = least(to, part.len());
+            let from = to.min(part.len());
             at = to + write_piece(mem, i, end, left, &mut part[from..]);
             first = false;
         }
-        i += 1;
     }
     at
 }
@@ -94,9 +76,9 @@ pub(crate) fn write_piece(mem: &[u8], i: usize, end: usize, left: usize, part: &
     let e = read_row(mem, i);
     let kind = e.kind;
     let at = opening(kind, string_of(mem, i), e.size, part);
-    let from = least(at, part.len());
-    let depth = e.depth as usize;
+    let from = at.min(part.len());
+    let depth = usize::from(e.depth);
     let to = at + write_parts(mem, i + 1, end, depth, left - 1, &mut part[from..]);
-    let last = least(to, part.len());
+    let last = to.min(part.len());
     to + closing(kind, &mut part[last..])
 }

@@ -9,4 +9,4 @@ pub overflow_add-result : goal.overflow_add-result
 overflow_add-result c = omega (arith, fixed_fits c.args.name.now _ _ _ c.named-at.ensures.end c.write_decimal.ensures.end c.requires)
 
 pub returns : goal.returns
-returns c = wrote_eq (fixed_text _ _) (wrote_then c.named-at.ensures (wrote_lent _ _ _ _ _ _ c.least-from.ensures c.write_decimal.ensures))
+returns c = wrote_eq (fixed_text _ _) (wrote_then c.named-at.ensures (wrote_lent _ _ _ _ _ _ c.min-from.ensures c.write_decimal.ensures))

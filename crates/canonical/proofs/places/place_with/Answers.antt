@@ -1,6 +1,6 @@
 -- `canonical::places::place_with` meets its contract: the places before the one at hand, and the search from it on.
 -- Assumes nothing.
-use mathlib.Core.Path.{sym, ◌∙◌}
+use mathlib.Core.Path.{◌≡◌, sym, ◌∙◌}
 use Prim.Native.Nat.{ℕ}
 use native.Mathlib.Omega.{arith}
 use lib.ListN.{length-replicate}
@@ -25,4 +25,6 @@ pub loop-place-preserved : goal.loop-place-preserved
 loop-place-preserved c = (c.has_print.ensures.1 ∙ c.loop-place.invariant.0, search_next _ _ _ c.loop-place.invariant.1 (place_counted _ _ c.requires _ c.declarations-n.ensures c.loop-place-test.true) (sym c.has_print.ensures.0 ∙ c.if-has_print.false))
 
 pub returns : goal.returns
-returns c = search_end _ _ _ c.loop-place.invariant.1 (omega (arith, formed_count _ c.requires, c.declarations-n.ensures, c.loop-place-test.false))
+returns c =
+    let e : c.declarations-n.result ≡ c.loop-place.place = omega arith in
+    e ∙ search_end _ _ _ c.loop-place.invariant.1 (omega (arith, formed_count _ c.requires, c.declarations-n.ensures, c.loop-place-test.false))

@@ -1,6 +1,6 @@
 -- `canonical::text`'s `write_parts` and `write_piece` meet their contracts: of the texts of the parts, what is written so far and what is left; and a row's three pieces one behind the other.
 -- Assumes nothing.
-use Prim.Native.Nat.{◌+◌, ◌*◌, ◌-◌}
+use Prim.Native.Nat.{◌+◌, ◌*◌}
 use Rattle.canonical.specs.Walk.{parts_text}
 use Rattle.canonical.proofs.WalkLaws.{over}
 use Rattle.canonical.proofs.WriteLaws.{Sofar}
@@ -12,8 +12,5 @@ decreases-write_parts l = 2 * l.left + 1
 abbrev pub decreases-write_piece : goal.decreases-write_piece
 decreases-write_piece l = 2 * l.left
 
-abbrev pub invariant-write_parts-loop-part : goal.invariant-write_parts-loop-part
-invariant-write_parts-loop-part l = Sofar l.initial.part l.part l.at (parts_text l.mem l.left l.start l.end l.depth) (over l.mem l.left l.end l.depth l.first l.i)
-
-abbrev pub decreases-write_parts-loop-part : goal.decreases-write_parts-loop-part
-decreases-write_parts-loop-part l = l.end - l.i
+abbrev pub invariant-write_parts-loop-i : goal.invariant-write_parts-loop-i
+invariant-write_parts-loop-i l = Sofar l.initial.part l.part l.at (parts_text l.mem l.left l.start l.end l.depth) (over l.mem l.left l.end l.depth l.first l.i)

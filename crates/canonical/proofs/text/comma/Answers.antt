@@ -8,5 +8,5 @@ use Rattle.canonical.proofs.text.comma.Goals as goal
 pub returns-then-first : goal.returns-then-first
 returns-then-first c = wrote_eq (sym (ap commaOf c.if-first.true)) (wrote_none _ _)
 
-pub returns : goal.returns
-returns c = wrote_eq (sym (ap commaOf c.if-first.false)) c.put.ensures
+pub returns-else-first : goal.returns-else-first
+returns-else-first c = wrote_eq (sym (ap commaOf c.if-first.false)) c.put.ensures
