@@ -10,7 +10,7 @@ use lib.ListN.{length, drop, length-drop}
 use lib.Seq.{drop-append-le}
 use borrow.Author.Tests.{eq-eqb, ne_eqb}
 use Rattle.binary.specs.Numbers.{Number, Groups, number, cut, too_many, below, groups, within, int_at, long_at, is_negative, absolute}
-use Rattle.std.specs.Prelude.{Ok, Err}
+use Rattle.std.specs.Prelude.{Result, Ok, Err}
 use Rattle.binary.specs.declared.number.NumberError.TheVariants.{Cut, Wrong}
 
 -- ---- groups
@@ -64,8 +64,8 @@ groups_some (suc g) (b ∷ l) = go (ltb b 128) (groups g l)
     go false cut = tt
     go false too_many = tt
 
-pub same_end : {v to w p : ℕ} → ◌≡◌ {A = Number} (Ok (v, to)) (Ok (w, p)) → to ≡ p
-same_end {v} {to} {w} {p} e = let z : ◌≡◌ {A = ℕ × ℕ} (v, to) (w, p) = cc in ap (λ (x : ℕ × ℕ). x.1) z
+pub same_end : {E : Type 0} {v to w p : ℕ} → ◌≡◌ {A = Result (ℕ × ℕ) E} (Ok (v, to)) (Ok (w, p)) → to ≡ p
+same_end {E} {v} {to} {w} {p} e = let z : ◌≡◌ {A = ℕ × ℕ} (v, to) (w, p) = cc in ap (λ (x : ℕ × ℕ). x.1) z
 
 -- a number that stands at a place
 within_inside : (limit at n v to : ℕ) (g : Groups) → groups_in g ≤ n - at → has_group g → within limit at g ≡ Ok (v, to) → (at < to) × (to ≤ n)
