@@ -1,13 +1,18 @@
--- What callers cite of a walk: what its answer tells.
+-- What callers cite of a walk: what its answer tells, and what the exit of a `?` returns.
 -- Assumes nothing.
-use Rattle.std.specs.Prelude.{Result, Ok, Err}
-use mathlib.Core.Path.{◌≡◌, refl, subst}
+use Rattle.std.specs.Prelude.{Result, Ok, Err, IsErrAnd}
+use Rattle.std.proofs.lemmas.Result.{err_from_is_err_and}
+use mathlib.Core.Path.{◌≡◌, refl, ap, subst, ◌∙◌}
 use mathlib.Core.List.{List}
 use Prim.Native.Nat.{ℕ, ◌≤◌}
 use lib.ListN.{length, take}
 use Rattle.answer.specs.declared.refusal.Fault.{Fault}
 use Rattle.walk.specs.Walk.{Stand, Outcome, went, stopped, steps}
 use Rattle.walk.specs.Steps.{Walked, Gave, gave, refused}
+
+-- what the exit of a `?` returns
+pub exit : {T E : Type 0} {r : Result T E} {e : E} → IsErrAnd r (λ y. y ≡ e) → r ≡ Err e
+exit {r = r} h = let p = err_from_is_err_and r h in p.1 ∙ ap Err p.2
 
 -- a walk that went to its end, with so many offsets in a list
 pub record Went (list : List ℕ) (o : Outcome) (to given : ℕ) : Type 0 where

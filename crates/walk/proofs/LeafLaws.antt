@@ -1,7 +1,6 @@
 -- Data that have no parts: what each answer of a reader says of a walk that stands at the offset.
 -- Assumes nothing.
-use Rattle.std.specs.Prelude.{Result, Ok, Err, IsErrAnd}
-use Rattle.std.proofs.lemmas.Result.{err_from_is_err_and}
+use Rattle.std.specs.Prelude.{Ok, Err}
 use mathlib.Core.Path.{◌≡◌, refl, sym, ap, ◌∙◌}
 use mathlib.Core.Bool.{Bool, true, false, not, ◌&&◌, ◌||◌}
 use mathlib.Core.Logic.{⊎_elim}
@@ -33,10 +32,6 @@ use Rattle.walk.specs.Steps.{Read, Choice, numbered, is_leaf, reading, leaf_of, 
 
 abbrev pub fault_of : Why → ℕ → Fault
 fault_of why at = record { why = why; at = at }
-
--- what the exit of a `?` returns
-pub exit : {T E : Type 0} {r : Result T E} {e : E} → IsErrAnd r (λ y. y ≡ e) → r ≡ Err e
-exit {r = r} h = let p = err_from_is_err_and r h in p.1 ∙ ap Err p.2
 
 -- ---- a number, or what is wrong where none stands
 

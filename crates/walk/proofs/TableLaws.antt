@@ -2,7 +2,7 @@
 -- Assumes nothing.
 use mathlib.Core.Path.{◌≡◌, sym, ap, subst, ◌∙◌}
 use mathlib.Core.List.{List}
-use Rattle.std.specs.Prelude.{Option, Some, None}
+use Rattle.std.specs.Prelude.{Option, Some, None, SomeIff}
 use Prim.Native.Nat.{ℕ, zero, suc, ◌+◌, ◌-◌, ◌<◌, ◌≤◌}
 use native.Mathlib.Omega.{arith}
 use native.Mathlib.Decide.{dec_lt, ℕ_discrete}
@@ -35,9 +35,14 @@ unfolding noted
 noted_suc zero e = absurd cc
 noted_suc (suc x) {d} e = let z : x ≡ d = cc in ap suc z
 
-pub held_some : (t : List ℕ) (row : ℕ) {e : ℕ} → e ≡ get_or t row 0 → (e ≡ 0 → ⊥) → Some (e - 1) ≡ held t row
+pub held_taken : (t : List ℕ) (row : ℕ) {e : ℕ} → e ≡ get_or t row 0 → (o : Option ℕ) → SomeIff o (1 ≤ e) (e - 1) → o ≡ held t row
 unfolding held noted
-held_some t row {e} f some = let g : get_or t row 0 ≡ suc (e - 1) = omega (arith, f, some) in rw g
+held_taken t row {e} f None h = let g : get_or t row 0 ≡ 0 = go (dec_lt 0 e) in rw g
+  where
+    go : Dec (0 < e) → get_or t row 0 ≡ 0
+    go (yes l) = absurd (h (omega (arith, l)))
+    go (no l) = omega (arith, f, l)
+held_taken t row {e} f (Some d) h = let g : get_or t row 0 ≡ suc d = omega (arith, f, h.0, h.1) in rw g
 
 pub held_none : (t : List ℕ) (row : ℕ) → get_or t row 0 ≡ 0 → None ≡ held t row
 unfolding held noted

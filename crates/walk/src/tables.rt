@@ -14,10 +14,7 @@ use row::read::depth_at;
 fn held(table: &[u16], row: usize) -> Option<usize>
     ensures { result ≡ held table.now row }
 {
-    match table.get(row) {
-        Some(e) if *e != 0 => Some(usize::from(*e) - 1),
-        _ => None,
-    }
+    usize::from(*table.get(row)?).checked_sub(1)
 }
 
 // Notes row d for a row, where there is room.

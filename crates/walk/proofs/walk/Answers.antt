@@ -2,7 +2,7 @@
 -- Assumes nothing.
 use Rattle.std.proofs.Common.{ℕ, ◌∙◌, arith, rules}
 use lib.ListN.{length-replicate}
-use Rattle.walk.proofs.LeafLaws.{exit}
+use Rattle.walk.proofs.Laws.{exit}
 use Rattle.walk.proofs.TableLaws.{found_zeros, follows_zeros}
 use Rattle.walk.proofs.DatumLaws.{starts, stop_turn, gave_stop, gave_end}
 use Rattle.walk.proofs.walk.Goals as goal

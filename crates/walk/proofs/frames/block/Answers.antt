@@ -1,7 +1,7 @@
 -- `walk::frames::block` meets its contract: the entries are pushed, with or without the place of their size.
 -- Assumes nothing.
 use Rattle.std.proofs.Common.{sym, ap, ◌∙◌, Ok}
-use Rattle.walk.proofs.LeafLaws.{exit}
+use Rattle.walk.proofs.Laws.{exit}
 use Rattle.walk.proofs.TurnLaws.{moved_room, block_plain, block_sized, block_err, long_numbered, long_read}
 use Rattle.walk.proofs.frames.block.Goals as goal
 

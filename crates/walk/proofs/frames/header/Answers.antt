@@ -1,7 +1,7 @@
 -- `walk::frames::header` meets its contract: a step is taken, and the count says whether there is a block.
 -- Assumes nothing.
 use Rattle.std.proofs.Common.{refl, ap, arith, Err}
-use Rattle.walk.proofs.LeafLaws.{exit}
+use Rattle.walk.proofs.Laws.{exit}
 use Rattle.walk.proofs.TurnLaws.{long_numbered, long_read, number_listed, number_bounded, number_behind, header_none, header_end, header_block, header_err}
 use Rattle.walk.proofs.frames.header.Goals as goal
 

@@ -1,7 +1,7 @@
 -- `walk::frames::resume_entry` meets its contract: one entry less is left, and its datum is to be visited behind the key.
 -- Assumes nothing.
 use Rattle.std.proofs.Common.{refl, ap, Ok}
-use Rattle.walk.proofs.LeafLaws.{exit}
+use Rattle.walk.proofs.Laws.{exit}
 use Rattle.walk.proofs.TurnLaws.{entry_to, entry_bad}
 use Rattle.walk.proofs.frames.resume_entry.Goals as goal
 

@@ -1,7 +1,8 @@
 -- `walk::leaves::choice` meets its contract.
 -- Assumes nothing.
 use Rattle.std.proofs.Common.{ap, Err}
-use Rattle.walk.proofs.LeafLaws.{exit, choice_err, choice_negative, choice_part}
+use Rattle.walk.proofs.Laws.{exit}
+use Rattle.walk.proofs.LeafLaws.{choice_err, choice_negative, choice_part}
 use Rattle.walk.proofs.leaves.choice.Goals as goal
 
 pub returns-in_err-v : goal.returns-in_err-v

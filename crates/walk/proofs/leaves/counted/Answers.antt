@@ -1,7 +1,8 @@
 -- `walk::leaves::counted` meets its contract: so many bytes from behind the length on are those behind the offset.
 -- Assumes nothing.
 use Rattle.std.proofs.Common.{ap, Err}
-use Rattle.walk.proofs.LeafLaws.{exit, long_within, counted_err, counted_negative, counted_pass}
+use Rattle.walk.proofs.Laws.{exit}
+use Rattle.walk.proofs.LeafLaws.{long_within, counted_err, counted_negative, counted_pass}
 use Rattle.walk.proofs.leaves.counted.Goals as goal
 
 pub returns-in_err-v : goal.returns-in_err-v

@@ -2,7 +2,8 @@
 -- Assumes nothing.
 use Rattle.std.proofs.Common.{rules}
 use mathlib.Core.Logic.{⊎_elim}
-use Rattle.walk.proofs.LeafLaws.{exit, int_ok, int_err, long_ok, long_err, leaf_boolean, leaf_int, leaf_long, leaf_float, leaf_double, leaf_bytes, leaf_string, leaf_fixed, leaf_none, others}
+use Rattle.walk.proofs.Laws.{exit}
+use Rattle.walk.proofs.LeafLaws.{int_ok, int_err, long_ok, long_err, leaf_boolean, leaf_int, leaf_long, leaf_float, leaf_double, leaf_bytes, leaf_string, leaf_fixed, leaf_none, others}
 use borrow.Enum.Refused.{opened}
 use denote.Enum.Declared.{tag_of}
 use Rattle.row.specs.contracts.kind.Kind.{the_type}

@@ -1,7 +1,7 @@
 -- `walk::turns::branch` meets its contract: there is such a member and its offset is given, or there is none.
 -- Assumes nothing.
 use Rattle.std.proofs.Common.{refl, sym, ap, Ok, Err}
-use Rattle.walk.proofs.LeafLaws.{exit}
+use Rattle.walk.proofs.Laws.{exit}
 use Rattle.walk.proofs.DatumLaws.{union_none, union_to, union_bad}
 use Rattle.walk.proofs.turns.branch.Goals as goal
 

@@ -1,7 +1,7 @@
 -- `walk::turns::plain` meets its contract.
 -- Assumes nothing.
 use Rattle.std.proofs.Common.{ap, Ok}
-use Rattle.walk.proofs.LeafLaws.{exit}
+use Rattle.walk.proofs.Laws.{exit}
 use Rattle.walk.proofs.DatumLaws.{plain_to, plain_bad}
 use Rattle.walk.proofs.turns.plain.Goals as goal
 

@@ -1,7 +1,7 @@
 -- `walk::turns::symbol` meets its contract.
 -- Assumes nothing.
 use Rattle.std.proofs.Common.{refl, sym, ap, Ok, Err}
-use Rattle.walk.proofs.LeafLaws.{exit}
+use Rattle.walk.proofs.Laws.{exit}
 use Rattle.walk.proofs.DatumLaws.{enum_none, enum_to, enum_bad}
 use Rattle.walk.proofs.turns.symbol.Goals as goal
 
