@@ -9,13 +9,15 @@ use native.Mathlib.Nat.{mul-suc, mul-add, mul_assoc, one-mul, zero-add, add-zero
 use native.Mathlib.Numerals.{add-one}
 use native.Mathlib.Decide.{dec_lt}
 use lib.Dec.{ltb}
-use lib.ListN.{length, drop, get_or}
+use lib.ListN.{length, take, drop, get_or, length-take, length-drop}
+use Rattle.std.proofs.Common.{get_or-take, get_or-drop}
 use lib.Seq.{drop-cons}
 use borrow.Author.Tests.{lt-ltb, le-ltb}
 use Rattle.binary.proofs.Laws.{drop_past, groups_past}
 use Rattle.binary.specs.Numbers.{Groups, number, cut, too_many, below, groups, within}
 use Rattle.binary.specs.Steps.{behind}
-use Rattle.binary.specs.declared.number.Number.TheVariants.{Is, Cut, Wrong}
+use Rattle.std.specs.Prelude.{Ok, Err}
+use Rattle.binary.specs.declared.number.NumberError.TheVariants.{Cut, Wrong}
 
 -- ---- sums
 
@@ -69,6 +71,22 @@ behind_more value power i b (number v n) =
 behind_more value power i b cut = refl
 behind_more value power i b too_many = refl
 
+-- ---- the bytes from a place on
+
+module _ (bytes : List ℕ) (at i : ℕ) {rest : List ℕ} (p : at ≤ length bytes) (e : rest ≡ take (length bytes - at) (drop at bytes)) where
+  rest_length : length rest + at ≡ length bytes
+  rest_length = rw e (simp (length-take, length-drop) (omega arith))
+
+  pub rest_past : length rest ≤ i → length bytes - at ≤ i
+  rest_past l = let z = rest_length in omega arith
+
+  module _ (l : i < length rest) where
+    pub rest_inside : at + i < length bytes
+    rest_inside = let z = rest_length in omega arith
+
+    pub rest_byte : {b : ℕ} → b ≡ get_or rest i 0 → b ≡ get_or bytes (at + i) 0
+    rest_byte {b} f = let k : i < length bytes - at = (let z = rest_length in omega arith) in rw (e, get_or-take, get_or-drop) at f
+
 -- ---- the loop
 
 -- what the loop holds before group i: the power, and what is left says the whole
@@ -81,7 +99,7 @@ pub start : (bytes : List ℕ) (at most : ℕ) → Held bytes at most 0 1 0
 start bytes at most = record { power_is = refl; small = omega arith; left = rw (sub-zero, add-zero) (behind_none (groups most (drop at bytes))) }
 
 module _ {bytes : List ℕ} {at most value power i : ℕ} (h : Held bytes at most value power i) where
-  pub ended : most ≤ i → Wrong ≡ within 18446744073709551616 at (groups most (drop at bytes))
+  pub ended : most ≤ i → Err Wrong ≡ within 18446744073709551616 at (groups most (drop at bytes))
   unfolding groups behind within
   ended l =
       let z : most - i ≡ 0 = omega arith in
@@ -89,7 +107,7 @@ module _ {bytes : List ℕ} {at most value power i : ℕ} (h : Held bytes at mos
       rw (← e)
 
   module _ (l : i < most) where
-    pub cut_off : at ≤ length bytes → length bytes - at ≤ i → Cut ≡ within 18446744073709551616 at (groups most (drop at bytes))
+    pub cut_off : at ≤ length bytes → length bytes - at ≤ i → Err Cut ≡ within 18446744073709551616 at (groups most (drop at bytes))
     unfolding behind within
     cut_off p q =
         let k : length bytes ≤ at + i = omega arith in
@@ -115,13 +133,13 @@ module _ {bytes : List ℕ} {at most value power i : ℕ} (h : Held bytes at mos
         pub fits : most ≤ 10 → (i ≡ 9 → b ≤ 1) → value + power * b < 18446744073709551616
         fits ten nine = last_fits value power i h.power_is h.small b (omega arith) last nine
 
-        pub last_is : most ≤ 10 → (i ≡ 9 → b ≤ 1) → Is (value + power * b) (at + i + 1) ≡ within 18446744073709551616 at (groups most (drop at bytes))
+        pub last_is : most ≤ 10 → (i ≡ 9 → b ≤ 1) → Ok (value + power * b, at + i + 1) ≡ within 18446744073709551616 at (groups most (drop at bytes))
         unfolding within
         last_is ten nine =
             let e : at + i + 1 ≡ at + (i + 1) = omega arith in
             rw (← whole, lt-ltb (value + power * b) 18446744073709551616 (fits ten nine), e)
 
-        pub last_wrong : i ≡ 9 → 1 < b → Wrong ≡ within 18446744073709551616 at (groups most (drop at bytes))
+        pub last_wrong : i ≡ 9 → 1 < b → Err Wrong ≡ within 18446744073709551616 at (groups most (drop at bytes))
         unfolding within
         last_wrong nine k = rw (← whole, le-ltb (value + power * b) 18446744073709551616 (last_over value power i h.power_is h.small b nine k))
 
@@ -130,7 +148,7 @@ module _ {bytes : List ℕ} {at most value power i : ℕ} (h : Held bytes at mos
         rest : behind (value + power * (b - 128)) (power * 128) (i + 1) (groups (most - (i + 1)) (drop (at + (i + 1)) bytes)) ≡ groups most (drop at bytes)
         rest = sym (behind_more value power i b _) ∙ (rw (le-ltb b 128 more) at here)
 
-        pub more_wrong : most ≤ 10 → i ≡ 9 → Wrong ≡ within 18446744073709551616 at (groups most (drop at bytes))
+        pub more_wrong : most ≤ 10 → i ≡ 9 → Err Wrong ≡ within 18446744073709551616 at (groups most (drop at bytes))
         unfolding groups behind within
         more_wrong ten nine =
             let z : most - (i + 1) ≡ 0 = omega arith in

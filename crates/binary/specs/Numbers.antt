@@ -1,8 +1,8 @@
 -- Numbers in Avro's binary encoding: groups of seven bits, the lowest first, each but the last with the top bit; then zig-zag.
 -- Assumes nothing.
-use Rattle.std.specs.Prelude.{ℕ, zero, suc, ◌+◌, ◌-◌, ◌*◌, ◌/◌, ◌%◌, ◌^◌, Bool, cond, List, [], ◌∷◌, eqb, ltb, drop}
-use Rattle.binary.specs.declared.number.Number.{Number}
-use Rattle.binary.specs.declared.number.Number.TheVariants.{Is, Cut, Wrong}
+use Rattle.std.specs.Prelude.{ℕ, zero, suc, ◌+◌, ◌-◌, ◌*◌, ◌/◌, ◌%◌, ◌^◌, Bool, cond, List, [], ◌∷◌, Result, Ok, Err, eqb, ltb, drop}
+use Rattle.binary.specs.declared.number.NumberError.{NumberError}
+use Rattle.binary.specs.declared.number.NumberError.TheVariants.{Cut, Wrong}
 
 -- what some bytes begin with: a number and how many groups it has, or the input ends before its last group, or there are more groups than may be
 pub data Groups : Type 0 where
@@ -22,11 +22,15 @@ groups zero bytes = too_many
 groups (suc g) [] = cut
 groups (suc g) (b ∷ bytes) = let more = groups g bytes in cond (ltb b 128) (number b 1) (below b more)
 
+-- a number as it is written and the place behind it, or why there is none
+abbrev pub Number : Type 0
+Number = Result (ℕ × ℕ) NumberError
+
 -- a number that stands at a place: it must be below the limit; the place behind it comes with it
 unfoldable pub within : ℕ → ℕ → Groups → Number
-within limit at (number v n) = cond (ltb v limit) (Is v (at + n)) Wrong
-within limit at cut = Cut
-within limit at too_many = Wrong
+within limit at (number v n) = cond (ltb v limit) (Ok (v, at + n)) (Err Wrong)
+within limit at cut = Err Cut
+within limit at too_many = Err Wrong
 
 -- an int: five groups at most, 32 bits
 unfoldable pub int_at : List ℕ → ℕ → Number

@@ -4,6 +4,5 @@ pub mod Theorems
 pub mod LeftOver
 mod FormedLaws
 mod CopyLaws
-mod MarkerLaws
 mod ReadLaws
 mod CallLaws

@@ -9,6 +9,7 @@ use native.Mathlib.Omega.{arith}
 use lib.ListN.{length, take, set, length-append, length-set}
 use lib.Seq.{take-suc-set}
 use borrow.Author.Tests.{lt-ltb, le-ltb, le-leb, lt-leb}
+use Rattle.std.specs.Prelude.{Result, Ok, Err, MatchResult}
 use Rattle.answer.specs.declared.refusal.Why.TheVariants.{NoRoom, BytesLeftOver}
 use Rattle.answer.specs.declared.refusal.Fault.{Fault}
 use Rattle.answer.specs.declared.refusal.Refusal.{Refusal}
@@ -22,7 +23,7 @@ use Rattle.formed.specs.WellFormed.{well_formed}
 use Rattle.walk.specs.Walk.{Outcome, stopped, walked, steps}
 use Rattle.walk.proofs.Laws.{Went}
 use Rattle.summary.specs.Summary.{Reading, offsets, refusal, walked_over, datum_in, in_room}
-use Rattle.summary.specs.Calls.{reading_of, list_after}
+use Rattle.summary.specs.Calls.{Offsets, numbers_of_offsets, reading_of, list_after}
 use Rattle.summary.proofs.FormedLaws.{formed_all, place_type}
 
 -- the walk by rows in memory is that of the set
@@ -32,6 +33,16 @@ module _ (m : List ℕ) (w : well_formed m ≡ true) (count : ℕ) (c : count �
   datum_is bytes at =
       ap₂ (λ (all type : List Row). walked_over place bytes (walked all bytes type at)) (sym (formed_all m w count c n p)) (sym (place_type m w count c n p place l start q))
 
+-- an answer of the walk whose fault was placed
+pub mapped_ok : (s : Result (ℕ × ℕ) Fault) {x : ℕ × ℕ} → MatchResult s (λ y. ◌≡◌ {A = Offsets} (Ok x) (Ok y)) (λ f. ⊥) → s ≡ Ok x
+mapped_ok (Ok y) {x} h = let z : y ≡ x = cc in ap Ok z
+mapped_ok (Err f) h = absurd h
+
+pub mapped_err : (place : ℕ) (s : Result (ℕ × ℕ) Fault) {r : Refusal} {Q : Fault → Type 0} → MatchResult s (λ y. ◌≡◌ {A = Offsets} (Err r) (Ok y)) Q
+    → ((f : Fault) → Q f → r ≡ placed f place) → (f : Fault) × (s ≡ Err f) × (r ≡ placed f place)
+mapped_err place (Ok y) h q = absurd cc
+mapped_err place (Err f) h q = (f, refl, q f h)
+
 -- there is room for the end's offset
 pub read_room : {list : List ℕ} {o : Outcome} {to given : ℕ} → Went list o to given → length list ≡ steps + 1 → given + 1 ≤ length (set list given to)
 read_room {list} {o} {to} {given} g s = omega (arith, length-set list given to, g.few)
@@ -40,9 +51,9 @@ module _ (asked place : ℕ) (bytes out : List ℕ) (o : Outcome) (x : Reading) 
   abbrev y : Reading
   y = in_room asked (length out) x
 
-  pub read_stopped : {f : Fault} → o ≡ stopped f.why f.at → {r : Refusal} → r ≡ placed f place → (of_refusal r ≡ reading_of y) × (out ≡ list_after y out)
+  pub read_stopped : {f : Fault} → o ≡ stopped f.why f.at → {r : Refusal} → r ≡ placed f place → {a : Offsets} → a ≡ Err r → (numbers_of_offsets a ≡ reading_of y) × (out ≡ list_after y out)
   unfolding walked_over in_room reading_of list_after
-  read_stopped q h = rw (e, q, h) (refl, refl)
+  read_stopped q h g = rw (e, q, g, h) (refl, refl)
 
   module _ {list : List ℕ} {to given : ℕ} (g : Went list o to given) where
     pub read_left : to < length bytes → {r : Refusal} → r ≡ refusal BytesLeftOver place to → (of_refusal r ≡ reading_of y) × (out ≡ list_after y out)

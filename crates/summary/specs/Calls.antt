@@ -1,19 +1,24 @@
 -- What is answered, in numbers: 0, the place and how many offsets; or the refusal's number, place and position. And the list afterwards.
 -- Assumes nothing.
-use Rattle.std.specs.Prelude.{ℕ, List, length}
+use Rattle.std.specs.Prelude.{ℕ, List, Result, Ok, Err, length}
 use Rattle.answer.specs.declared.numbers.Numbers.{Numbers}
+use Rattle.answer.specs.declared.refusal.Refusal.{Refusal}
 use Rattle.answer.specs.Answers.{accepted, of_refusal}
 use Rattle.ground.specs.Bytes.{store}
 use Rattle.summary.specs.Summary.{Reading, offsets, refused, Finding, found, nowhere}
-use Rattle.summary.specs.declared.answers.Offsets.{Offsets}
-use Rattle.summary.specs.declared.answers.Offsets.TheVariants as given
-use Rattle.summary.specs.declared.answers.Place.{Place}
-use Rattle.summary.specs.declared.answers.Place.TheVariants as place
+
+-- a declaration's place and how many offsets are in the list, or a refusal
+abbrev pub Offsets : Type 0
+Offsets = Result (ℕ × ℕ) Refusal
+
+-- the place of a fingerprint, or a refusal
+abbrev pub Place : Type 0
+Place = Result ℕ Refusal
 
 -- the contracts read an answer by them, for each of its cases; they tell the answer (laws `offsets_one`, `place_one`)
 abbrev pub numbers_of_offsets : Offsets → Numbers
-numbers_of_offsets (given.Given p n) = accepted p n 0
-numbers_of_offsets (given.Refused r) = of_refusal r
+numbers_of_offsets (Ok (p, n)) = accepted p n 0
+numbers_of_offsets (Err r) = of_refusal r
 
 unfoldable pub reading_of : Reading → Numbers
 reading_of (offsets p list) = accepted p (length list) 0
@@ -25,8 +30,8 @@ list_after (offsets p list) out = store out 0 list
 list_after (refused r) out = out
 
 abbrev pub numbers_of_place : Place → Numbers
-numbers_of_place (place.At p) = accepted p 0 0
-numbers_of_place (place.Refused r) = of_refusal r
+numbers_of_place (Ok p) = accepted p 0 0
+numbers_of_place (Err r) = of_refusal r
 
 unfoldable pub finding_of : Finding → Numbers
 finding_of (found p) = accepted p 0 0

@@ -1,5 +1,6 @@
 -- Frames in an array are a list; and what comes of them, one after the other.
 -- Assumes nothing.
+use Rattle.std.specs.Prelude.{Ok, Err}
 use mathlib.Core.Path.{◌≡◌, refl, sym, ap, ◌∙◌}
 use mathlib.Core.Bool.{Bool, true, false, ◌||◌}
 use mathlib.Core.List.{List, ◌∷◌}
@@ -16,10 +17,8 @@ use Rattle.binary.specs.Numbers.{long_at}
 use Rattle.row.specs.Rows.{Row}
 use Rattle.row.specs.Layout.{row_limit}
 use Rattle.walk.specs.Parts.{is_map}
-use Rattle.walk.specs.declared.states.Read.{Read}
-use Rattle.walk.specs.declared.states.Read.TheVariants.{To, Bad}
 use Rattle.walk.specs.Walk.{Stand, Outcome, went, stopped, Item, blocks, pick, and_then, times, moved_to, is_size, counted, key, in_turn, entry, plain_block, ended, sized_block, steps}
-use Rattle.walk.specs.Steps.{type_at, parts_behind, reading, Reads, Frame, parts, entries, is_right, block_end, block_rest, run, frame_of, frames_of, pushed, going, outcome, after}
+use Rattle.walk.specs.Steps.{Read, type_at, parts_behind, reading, Reads, Frame, parts, entries, is_right, block_end, block_rest, run, frame_of, frames_of, pushed, going, outcome, after}
 
 -- ---- one after the other
 
@@ -258,8 +257,8 @@ module _ (bytes : List ℕ) (size to : ℕ) where
 -- ---- the key of a map's pair
 
 place_of : Read → ℕ
-place_of (To p) = p
-place_of (Bad f) = 0
+place_of (Ok p) = p
+place_of (Err f) = 0
 
 module _ (bytes : List ℕ) (type : List Row) (at : ℕ) where
   pub key_map : is_map type ≡ true → {r : Read} → Reads bytes at r (counted bytes) → Reads bytes at r (key bytes type)
@@ -267,7 +266,7 @@ module _ (bytes : List ℕ) (type : List Row) (at : ℕ) where
   key_map e p =
       record { says = λ h f. p.says h f ∙ sym (pick_true (is_map type) _ _ e); within = p.within }
 
-  pub key_none : at ≤ length bytes → is_map type ≡ false → Reads bytes at (To at) (key bytes type)
+  pub key_none : at ≤ length bytes → is_map type ≡ false → Reads bytes at (Ok at) (key bytes type)
   unfolding key reading moved_to place_of
   key_none l e =
       record {

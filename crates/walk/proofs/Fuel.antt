@@ -1,5 +1,6 @@
 -- Enough is enough: a visit whose bound is at least the steps that are left is a fixed point of `one_item`.
 -- Assumes nothing.
+use Rattle.std.specs.Prelude.{Ok, Err}
 use mathlib.Core.Path.{◌≡◌, refl, ◌∙◌}
 use mathlib.Core.Bool.{Bool, true, false}
 use mathlib.Core.List.{List, [], ◌∷◌}
@@ -9,9 +10,8 @@ use borrow.Author.Tests.{eq-eqb, ne_eqb}
 use Rattle.answer.specs.declared.refusal.Why.{Why}
 use Rattle.answer.specs.declared.refusal.Why.TheVariants.{TooManySteps}
 use Rattle.ground.proofs.Laws.{never}
-use Rattle.binary.specs.Numbers.{absolute}
-use Rattle.binary.specs.declared.number.Number.{Number}
-use Rattle.binary.specs.declared.number.Number.TheVariants.{Is, Cut, Wrong}
+use Rattle.binary.specs.Numbers.{Number, absolute}
+use Rattle.binary.specs.declared.number.NumberError.TheVariants.{Cut, Wrong}
 use Rattle.row.specs.Rows.{Row}
 use Rattle.row.specs.declared.kind.Kind.{Kind}
 use Rattle.row.specs.declared.kind.Kind.TheVariants.{Null, Boolean, Int, Long, Float, Double, Bytes, String, Reference, Array, Map, Union, Record, Enum, Fixed, Field, Symbol, Alias, FieldAlias}
@@ -56,9 +56,9 @@ module _ (bytes : List ℕ) where
   alike_number : (n : Number) (next next' : ℕ → Stand → Outcome) (h : Stand)
       → ((v : ℕ) (k : Stand) → k.left ≡ h.left → Alike h.left (next v k) (next' v k)) → Alike h.left (on_number bytes n next h) (on_number bytes n next' h)
   unfolding on_number moved_to
-  alike_number (Is v to) next next' h e = e v (moved_to to h) refl
-  alike_number Cut next next' h e = both_stopped
-  alike_number Wrong next next' h e = both_stopped
+  alike_number (Ok (v, to)) next next' h e = e v (moved_to to h) refl
+  alike_number (Err Cut) next next' h e = both_stopped
+  alike_number (Err Wrong) next next' h e = both_stopped
 
   alike_passed : (n : ℕ) (h : Stand) → Alike h.left (passed bytes n h) (passed bytes n h)
   unfolding passed moved_to

@@ -1,5 +1,6 @@
 -- A walk stays inside the bytes, and what it accepts it accepts alike where more bytes stand behind.
 -- Assumes nothing.
+use Rattle.std.specs.Prelude.{Result, Ok, Err}
 use mathlib.Core.Path.{◌≡◌, refl, ap, ◌∙◌}
 use mathlib.Core.Bool.{Bool, true, false}
 use mathlib.Core.List.{List, [], ◌∷◌, ◌++◌}
@@ -11,9 +12,8 @@ use borrow.Author.Tests.{le-leb, lt-ltb, leb-true, ltb-true}
 use Rattle.answer.specs.declared.refusal.Why.{Why}
 use Rattle.ground.specs.Bytes.{byte_at}
 use Rattle.ground.proofs.Laws.{never}
-use Rattle.binary.specs.Numbers.{long_at, absolute}
-use Rattle.binary.specs.declared.number.Number.{Number}
-use Rattle.binary.specs.declared.number.Number.TheVariants.{Is, Cut, Wrong}
+use Rattle.binary.specs.Numbers.{Number, long_at, absolute}
+use Rattle.binary.specs.declared.number.NumberError.TheVariants.{Cut, Wrong}
 use Rattle.binary.proofs.Laws.{int_inside, long_inside, int_longer, long_longer}
 use Rattle.row.specs.Rows.{Row}
 use Rattle.row.specs.declared.kind.Kind.{Kind}
@@ -60,13 +60,13 @@ module _ (bytes more : List ℕ) where
 
   -- a number: one that was read is read again, and ends inside
   longer_number : (m n : Number) (next next' : ℕ → Stand → Outcome) (h : Stand)
-      → ((v to : ℕ) → m ≡ Is v to → (n ≡ Is v to) × (to ≤ length bytes))
+      → ((v to : ℕ) → m ≡ Ok (v, to) → (n ≡ Ok (v, to)) × (to ≤ length bytes))
       → ((v : ℕ) (k : Stand) → k.at ≤ length bytes → Longer bytes (next v k) (next' v k))
       → Longer bytes (on_number bytes m next h) (on_number (bytes ++ more) n next' h)
   unfolding on_number moved_to
-  longer_number (Is v to) n next next' h e f = let q = e v to refl in rw q.0 (f v (moved_to to h) q.1)
-  longer_number Cut n next next' h e f = off
-  longer_number Wrong n next next' h e f = off
+  longer_number (Ok (v, to)) n next next' h e f = let q = e v to refl in rw q.0 (f v (moved_to to h) q.1)
+  longer_number (Err Cut) n next next' h e f = off
+  longer_number (Err Wrong) n next next' h e f = off
 
   longer_int : (next next' : ℕ → Stand → Outcome) (h : Stand) → ((v : ℕ) (k : Stand) → k.at ≤ length bytes → Longer bytes (next v k) (next' v k))
       → Longer bytes (on_int bytes next h) (on_int (bytes ++ more) next' h)
@@ -106,11 +106,11 @@ module _ (bytes more : List ℕ) where
   unfolding key
   longer_key type h l = longer_pick _ (longer_counted h) (both {h = h} l)
 
-  size_longer : (n m : Number) (to : ℕ) → ((v e : ℕ) → n ≡ Is v e → m ≡ Is v e) → is_size n to ≡ true → is_size m to ≡ true
+  size_longer : (n m : Number) (to : ℕ) → ((v e : ℕ) → n ≡ Ok (v, e) → m ≡ Ok (v, e)) → is_size n to ≡ true → is_size m to ≡ true
   unfolding is_size
-  size_longer (Is v e) m to f q = rw (f v e refl) q
-  size_longer Cut m to f q = never q
-  size_longer Wrong m to f q = never q
+  size_longer (Ok (v, e)) m to f q = rw (f v e refl) q
+  size_longer (Err Cut) m to f q = never q
+  size_longer (Err Wrong) m to f q = never q
 
   longer_ended : (size : ℕ) (h : Stand) → h.at ≤ length bytes → Longer bytes (ended bytes size h) (ended (bytes ++ more) size h)
   unfolding ended

@@ -3,7 +3,7 @@
 use mathlib.Core.Path.{◌≡◌, sym, ap, subst, ◌∙◌}
 use mathlib.Core.Bool.{Bool, true, false}
 use mathlib.Core.List.{List, [], ◌∷◌}
-use Prim.Native.Nat.{ℕ, suc, ◌+◌, ◌-◌, ◌<◌, ◌≤◌}
+use Prim.Native.Nat.{ℕ, suc, ◌+◌, ◌<◌, ◌≤◌}
 use native.Mathlib.Omega.{arith}
 use native.Mathlib.Decide.{dec_lt}
 use lib.Dec.{ltb}
@@ -164,9 +164,8 @@ module _ (m : List ℕ) (n : ℕ) where
                 ∙ inv.room,
           )
 
-      pub count_on : (left ≡ 0 → ⊥) → (q : ℕ) → FirstPart m n (entry_at m r).depth (r + 1) q → Counting d s number q (left - 1)
-      count_on some q p =
-          let e : left ≡ suc (left - 1) = omega (arith, some) in
+      pub count_on : {after : ℕ} → left ≡ suc after → (q : ℕ) → FirstPart m n (entry_at m r).depth (r + 1) q → Counting d s number q after
+      count_on {after} e q p =
           let f : (entry_at m r).depth ≡ d = inv.deep l in
           let g : parts_from m n d q ≡ parts_at d (type_at m n (r + 1)) = rw (← f) p.parts in
           let h : parts_from m n d r ≡ type_at m n r ∷ parts_from m n d q =
@@ -175,9 +174,17 @@ module _ (m : List ℕ) (n : ℕ) where
             below = p.below;
             deep = λ k. p.deep k ∙ f;
             part =
-                sym (ap (λ (k : ℕ). get_or (parts_from m n d r) k []) e ∙ ap (λ (ps : List (List Row)). get_or ps (suc (left - 1)) []) h) ∙ inv.part;
+                sym (ap (λ (k : ℕ). get_or (parts_from m n d r) k []) e ∙ ap (λ (ps : List (List Row)). get_or ps (suc after) []) h) ∙ inv.part;
             room =
-                ltb_suc (left - 1) (length (parts_from m n d q))
-                ∙ sym (ap (λ (k : ℕ). ltb k (length (parts_from m n d r))) e ∙ ap (λ (ps : List (List Row)). ltb (suc (left - 1)) (length ps)) h)
+                ltb_suc after (length (parts_from m n d q))
+                ∙ sym (ap (λ (k : ℕ). ltb k (length (parts_from m n d r))) e ∙ ap (λ (ps : List (List Row)). ltb (suc after) (length ps)) h)
                 ∙ inv.room;
           }
+
+    -- none is left before it
+    pub count_done : left ≡ 0 → Numbered d s number r
+    count_done z = go (dec_lt r n)
+      where
+        go : Dec (r < n) → Numbered d s number r
+        go (yes l) = count_here l z
+        go (no l) = let b = inv.below in let e : r ≡ n = omega (arith, l) in subst (λ (x : ℕ). Numbered d s number x) (sym e) (count_end (omega (arith, l)))

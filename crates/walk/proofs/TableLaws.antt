@@ -2,7 +2,8 @@
 -- Assumes nothing.
 use mathlib.Core.Path.{◌≡◌, sym, ap, subst, ◌∙◌}
 use mathlib.Core.List.{List}
-use Prim.Native.Nat.{ℕ, suc, ◌+◌, ◌-◌, ◌<◌, ◌≤◌}
+use Rattle.std.specs.Prelude.{Option, Some, None, SomeIff}
+use Prim.Native.Nat.{ℕ, zero, suc, ◌+◌, ◌-◌, ◌<◌, ◌≤◌}
 use native.Mathlib.Omega.{arith}
 use native.Mathlib.Decide.{dec_lt, ℕ_discrete}
 use lib.ListN.{length, get_or, set, replicate, get_or-replicate, length-replicate, length-set, get_or-eq_default}
@@ -10,7 +11,7 @@ use lib.Seq.{get_or-set_same, get_or-set_other}
 use Rattle.row.specs.Sets.{rows_from}
 use Rattle.row.specs.Memory.{entry_at, text_at}
 use Rattle.resolve.specs.Resolve.{definition_in}
-use Rattle.walk.specs.Steps.{type_at, FirstPart, Found, Follows}
+use Rattle.walk.specs.Steps.{type_at, noted, held, FirstPart, Found, Follows}
 
 -- ---- entries
 
@@ -29,6 +30,24 @@ set_holds t i v x some h = go (dec_lt i (length t))
     go (yes l) = sym (get_or-set_same t i v 0 l) ∙ h
     go (no l) = absurd (some (sym h ∙ get_or-eq_default (set t i v) 0 (subst (λ (y : ℕ). y ≤ i) (sym (length-set t i v)) (omega arith))))
 
+noted_suc : (x : ℕ) {d : ℕ} → noted x ≡ Some d → x ≡ suc d
+unfolding noted
+noted_suc zero e = absurd cc
+noted_suc (suc x) {d} e = let z : x ≡ d = cc in ap suc z
+
+pub held_taken : (t : List ℕ) (row : ℕ) {e : ℕ} → e ≡ get_or t row 0 → (o : Option ℕ) → SomeIff o (1 ≤ e) (e - 1) → o ≡ held t row
+unfolding held noted
+held_taken t row {e} f None h = let g : get_or t row 0 ≡ 0 = go (dec_lt 0 e) in rw g
+  where
+    go : Dec (0 < e) → get_or t row 0 ≡ 0
+    go (yes l) = absurd (h (omega (arith, l)))
+    go (no l) = omega (arith, f, l)
+held_taken t row {e} f (Some d) h = let g : get_or t row 0 ≡ suc d = omega (arith, f, h.0, h.1) in rw g
+
+pub held_none : (t : List ℕ) (row : ℕ) → get_or t row 0 ≡ 0 → None ≡ held t row
+unfolding held noted
+held_none t row f = rw f
+
 -- each entry of a table says something of its row
 module _ (Says : ℕ → ℕ → Type 0) where
   abbrev True : List ℕ → Type 0
@@ -39,8 +58,9 @@ module _ (Says : ℕ → ℕ → Type 0) where
 
   module _ (table : List ℕ) (known : True table) (row : ℕ) where
     -- it is asked
-    true_held : {v : ℕ} → v ≡ get_or table row 0 → (v ≡ 0 → ⊥) → Says row (v - 1)
-    true_held {v} e some = let f : v ≡ suc (v - 1) = omega arith in known row (v - 1) (sym e ∙ f)
+    true_held : {o : Option ℕ} {d : ℕ} → o ≡ held table row → o ≡ Some d → Says row d
+    unfolding held
+    true_held {o} {d} e f = known row d (noted_suc (get_or table row 0) (sym e ∙ f))
 
     -- one more is noted
     true_set : (d : ℕ) → Says row d → {table' : List ℕ} → table' ≡ set table row (d + 1) → True table'
@@ -71,11 +91,11 @@ module _ (m : List ℕ) (n : ℕ) where
   found_zeros k = record { below = true_zeros Below k; says = true_zeros Defines k }
 
   module _ {table : List ℕ} (known : Found m n table) (row : ℕ) where
-    pub found_below : {v : ℕ} → v ≡ get_or table row 0 → (v ≡ 0 → ⊥) → v - 1 ≤ n
-    found_below e some = true_held Below table known.below row e some
+    pub found_below : {o : Option ℕ} {d : ℕ} → o ≡ held table row → o ≡ Some d → d ≤ n
+    found_below e f = true_held Below table known.below row e f
 
-    pub found_held : {v : ℕ} → v ≡ get_or table row 0 → (v ≡ 0 → ⊥) → type_at m n (v - 1) ≡ definition_in (text_at m row) (rows_from m n 0)
-    found_held e some = true_held Defines table known.says row e some
+    pub found_held : {o : Option ℕ} {d : ℕ} → o ≡ held table row → o ≡ Some d → type_at m n d ≡ definition_in (text_at m row) (rows_from m n 0)
+    found_held e f = true_held Defines table known.says row e f
 
     pub found_noted : (d : ℕ) → d ≤ n → type_at m n d ≡ definition_in (text_at m row) (rows_from m n 0)
         → {table' : List ℕ} → table' ≡ set table row (d + 1) → Found m n table'
@@ -91,8 +111,8 @@ module _ (m : List ℕ) (n : ℕ) where
   follows_zeros k = record { says = true_zeros Behind k }
 
   module _ {table : List ℕ} (known : Follows m n table) (row : ℕ) where
-    pub follows_held : {v : ℕ} → v ≡ get_or table row 0 → (v ≡ 0 → ⊥) → FirstPart m n (entry_at m row).depth (row + 1) (v - 1)
-    follows_held e some = true_held Behind table known.says row e some
+    pub follows_held : {o : Option ℕ} {d : ℕ} → o ≡ held table row → o ≡ Some d → FirstPart m n (entry_at m row).depth (row + 1) d
+    follows_held e f = true_held Behind table known.says row e f
 
     pub follows_noted : (j : ℕ) → FirstPart m n (entry_at m row).depth (row + 1) j → {table' : List ℕ} → table' ≡ set table row (j + 1)
         → Follows m n table'

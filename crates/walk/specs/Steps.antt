@@ -1,9 +1,10 @@
 -- What the code holds on the way: types by the numbers of their rows in memory, two tables, and frames of what is still to come.
 -- Assumes nothing.
-use Rattle.std.specs.Prelude.{ℕ, zero, suc, ◌+◌, ◌-◌, ◌*◌, ◌/◌, ◌%◌, ◌≤◌, ◌<◌, ◌≡◌, Bool, not, cond, ◌||◌, List, [], ◌∷◌, eqb, ltb, length, get_or, set, take}
+use Rattle.std.specs.Prelude.{ℕ, zero, suc, ◌+◌, ◌-◌, ◌*◌, ◌%◌, ◌≤◌, ◌<◌, ◌≡◌, Bool, not, cond, ◌||◌, List, [], ◌∷◌, Option, Some, None, Result, Ok, Err, eqb, ltb, length, get_or, set, take}
 use Rattle.answer.specs.declared.refusal.Fault.{Fault}
-use Rattle.answer.specs.declared.refusal.Why.TheVariants.{OutOfRange, BlockSizeWrong}
-use Rattle.binary.specs.Numbers.{long_at}
+use Rattle.answer.specs.declared.refusal.Why.TheVariants.{CutShort, NumberWrong, OutOfRange, BlockSizeWrong}
+use Rattle.binary.specs.Numbers.{Number, long_at}
+use Rattle.binary.specs.declared.number.NumberError.TheVariants.{Cut, Wrong}
 use Rattle.row.specs.Rows.{Row}
 use Rattle.row.specs.Layout.{row_limit}
 use Rattle.row.specs.Sets.{rows_from}
@@ -15,14 +16,6 @@ use Rattle.resolve.specs.Resolve.{definition_in}
 use Rattle.walk.specs.Parts.{parts_at}
 use Rattle.walk.specs.Walk.{Stand, Outcome, went, stopped, Item, datum, blocks, pick, and_then, times, moved_to, is_size, passed, on_int, on_long, flag, counted, chosen, in_turn, entry, block, one_item, visit, steps}
 use Rattle.walk.specs.declared.states.Here.{Here}
-use Rattle.walk.specs.declared.states.Read.{Read}
-use Rattle.walk.specs.declared.states.Read.TheVariants.{To, Bad}
-use Rattle.walk.specs.declared.states.Choice.{Choice}
-use Rattle.walk.specs.declared.states.Choice.TheVariants.{Part, None}
-use Rattle.walk.specs.declared.states.Walked.{Walked}
-use Rattle.walk.specs.declared.states.Walked.TheVariants.{End, Stopped}
-use Rattle.walk.specs.declared.states.Turn.{Turn}
-use Rattle.walk.specs.declared.states.Turn.TheVariants.{On, Stop}
 
 -- ---- the first n rows of memory
 
@@ -46,6 +39,14 @@ pub record FirstPart (m : List ℕ) (n d i j : ℕ) : Type 0 where
 
 -- ---- tables that are asked for truth alone: an entry is 0, or 1 + a row
 
+-- the row that a table holds for row i, if it holds one
+unfoldable pub noted : ℕ → Option ℕ
+noted zero = None
+noted (suc d) = Some d
+
+unfoldable pub held : List ℕ → ℕ → Option ℕ
+held table i = noted (get_or table i 0)
+
 -- row d defines what row i refers to
 pub record Found (m : List ℕ) (n : ℕ) (found : List ℕ) : Type 0 where
   pub below : (i d : ℕ) → get_or found i 0 ≡ suc d → d ≤ n
@@ -57,9 +58,22 @@ pub record Follows (m : List ℕ) (n : ℕ) (next : List ℕ) : Type 0 where
 
 -- ---- data without parts
 
+-- what a reader answers: the offset behind the datum, or what is wrong
+abbrev pub Read : Type 0
+Read = Result ℕ Fault
+
 unfoldable pub reading : Read → Stand → Outcome
-reading (To p) h = went (moved_to p h)
-reading (Bad f) h = stopped f.why f.at
+reading (Ok p) h = went (moved_to p h)
+reading (Err f) h = stopped f.why f.at
+
+-- a number and the offset behind it, or what is wrong where none stands at an offset of so many bytes
+abbrev pub Choice : Type 0
+Choice = Result (ℕ × ℕ) Fault
+
+unfoldable pub numbered : ℕ → ℕ → Number → Choice
+numbered size at (Ok n) = Ok n
+numbered size at (Err Cut) = Err (record { why = CutShort; at = size })
+numbered size at (Err Wrong) = Err (record { why = NumberWrong; at = at })
 
 unfoldable pub leaf_of : List ℕ → Kind → ℕ → Stand → Outcome
 leaf_of bytes Null size h = went h
@@ -90,16 +104,16 @@ is_leaf k =
 -- what a reader of data answers: of a walk that stands at an offset, this outcome
 pub record Reads (bytes : List ℕ) (at : ℕ) (r : Read) (of : Stand → Outcome) : Type 0 where
   pub says : (h : Stand) → h.at ≡ at → reading r h ≡ of h
-  pub within : (p : ℕ) → r ≡ To p → p ≤ length bytes
+  pub within : (p : ℕ) → r ≡ Ok p → p ≤ length bytes
 
 -- a number says which part, or nothing does
 unfoldable pub choosing : Choice → ℕ → List (List Row) → (List Row → Stand → Outcome) → Stand → Outcome
-choosing (Part v to) at ps next h = pick (ltb v (length ps)) (next (get_or ps v []) (moved_to to h)) (stopped OutOfRange at)
-choosing (None f) at ps next h = stopped f.why f.at
+choosing (Ok (v, to)) at ps next h = pick (ltb v (length ps)) (next (get_or ps v []) (moved_to to h)) (stopped OutOfRange at)
+choosing (Err f) at ps next h = stopped f.why f.at
 
 pub record Chooses (bytes : List ℕ) (at : ℕ) (r : Choice) : Type 0 where
   pub says : (ps : List (List Row)) (next : List Row → Stand → Outcome) (h : Stand) → h.at ≡ at → choosing r at ps next h ≡ chosen bytes ps next h
-  pub within : (v p : ℕ) → r ≡ Part v p → p ≤ length bytes
+  pub within : (v p : ℕ) → r ≡ Ok (v, p) → p ≤ length bytes
 
 -- ---- frames: what is still to come
 
@@ -136,17 +150,13 @@ unfoldable pub frames_of : List ℕ → ℕ → List ℕ → ℕ → List Frame
 frames_of m n frames zero = []
 frames_of m n frames (suc d) = frame_of m n (get_or frames (3 * d) 0) (get_or frames (3 * d + 1) 0) (get_or frames (3 * d + 2) 0) ∷ frames_of m n frames d
 
--- no row is to be visited now
-abbrev pub none : ℕ
-none = row_limit + 1
-
 -- frame d becomes these three numbers
 unfoldable pub pushed : List ℕ → ℕ → ℕ → ℕ → ℕ → List ℕ
 pushed frames d row left size = set (set (set frames (3 * d) row) (3 * d + 1) left) (3 * d + 2) size
 
 -- ---- turns
 
-abbrev pub here_of : ℕ → ℕ → ℕ → ℕ → ℕ → Here
+abbrev pub here_of : ℕ → ℕ → ℕ → ℕ → Option ℕ → Here
 here_of at left given depth row = record { at = at; left = left; given = given; depth = depth; row = row }
 
 unfoldable pub standing : List ℕ → Here → Stand
@@ -164,34 +174,42 @@ outcome m n bytes frames depth h = run bytes (going m n bytes) (frames_of m n fr
 unfoldable pub after : List ℕ → ℕ → List ℕ → List ℕ → ℕ → Outcome → Outcome
 after m n bytes frames depth o = and_then o (λ k. outcome m n bytes frames depth k)
 
--- what comes of all that is still to come: the row that is to be visited now, if there is one, and the frames
+-- what comes of a row that is to be visited now, if there is one, and then of them
+unfoldable pub from_row : List ℕ → ℕ → List ℕ → List ℕ → ℕ → Option ℕ → Stand → Outcome
+from_row m n bytes frames depth None h = outcome m n bytes frames depth h
+from_row m n bytes frames depth (Some row) h = after m n bytes frames depth (going m n bytes (datum (type_at m n row)) h)
+
+-- what comes of all that is still to come
 unfoldable pub pending : List ℕ → ℕ → List ℕ → List ℕ → List ℕ → Here → Outcome
-pending m n bytes frames list here =
-    let h = standing list here in
-    let visited = after m n bytes frames here.depth (going m n bytes (datum (type_at m n here.row)) h) in
-    let resumed = outcome m n bytes frames here.depth h in
-    pick (ltb here.row none) visited resumed
+pending m n bytes frames list here = from_row m n bytes frames here.depth here.row (standing list here)
 
 -- the numbers of a walk keep their bounds: a frame and an offset cost a step each
 pub record Bounded (bytes frames : List ℕ) (here : Here) : Type 0 where
   pub at_bound : here.at ≤ length bytes
   pub frames_size : length frames ≡ 3 * steps
   pub frames_room : here.depth + here.left ≤ steps
-  pub row_bound : here.row ≤ none
 
 pub record Listed (list : List ℕ) (here : Here) : Type 0 where
   pub list_size : length list ≡ steps + 1
   pub list_room : here.given + here.left ≤ steps
 
 -- each turn takes a step, pops a frame or gives a row to visit
-abbrev pub to_do : Here → ℕ
-to_do here = 4 * here.left + (2 * here.depth + here.row / none)
+abbrev pub rowless : Option ℕ → ℕ
+rowless None = 1
+rowless (Some row) = 0
 
--- a turn does not change what comes of it all
+abbrev pub to_do : Here → ℕ
+to_do here = 4 * here.left + (2 * here.depth + rowless here.row)
+
+-- a turn of the walk: on, or what stops it
+abbrev pub Turn : Type 0
+Turn = Result Here Fault
+
+-- it does not change what comes of it all
 pub data Turned (m : List ℕ) (n : ℕ) (bytes frames list : List ℕ) (o : Outcome) (more : ℕ) : Turn → Type 0 where
   on : {here : Here} → Bounded bytes frames here → Listed list here → pending m n bytes frames list here ≡ o → to_do here < more
-      → Turned m n bytes frames list o more (On here)
-  stop : {f : Fault} → stopped f.why f.at ≡ o → Turned m n bytes frames list o more (Stop f)
+      → Turned m n bytes frames list o more (Ok here)
+  stop : {f : Fault} → stopped f.why f.at ≡ o → Turned m n bytes frames list o more (Err f)
 
 -- what comes of the datum at a row, once its step is taken, and then of the frames
 unfoldable pub on_datum : List ℕ → ℕ → List ℕ → List ℕ → List ℕ → ℕ → Here → Outcome
@@ -209,7 +227,11 @@ on_block m n bytes frames list row v here = after m n bytes frames here.depth (b
 abbrev pub before : Here → ℕ
 before here = 4 * here.left + (2 * here.depth + 4)
 
--- what the walk of a type's datum, from an offset on, answers, with the offsets that it leaves in a list
+-- what the walk of a type's datum, from an offset on, answers: where the datum ends and how many offsets were given, or what stops it; with the offsets that it
+-- leaves in a list
+abbrev pub Walked : Type 0
+Walked = Result (ℕ × ℕ) Fault
+
 pub data Gave (list : List ℕ) : Outcome → Walked → Type 0 where
-  gave : {h : Stand} → length h.given ≤ steps → take (length h.given) list ≡ h.given → Gave list (went h) (End h.at (length h.given))
-  refused : {f : Fault} → Gave list (stopped f.why f.at) (Stopped f)
+  gave : {h : Stand} → length h.given ≤ steps → take (length h.given) list ≡ h.given → Gave list (went h) (Ok (h.at, length h.given))
+  refused : {f : Fault} → Gave list (stopped f.why f.at) (Err f)

@@ -1,12 +1,11 @@
 -- The walk of a datum by the rows of its type: a line for each kind, as Avro 1.12.0's binary encoding has them. Positions are offsets in the bytes.
 -- Assumes nothing.
-use Rattle.std.specs.Prelude.{ℕ, zero, suc, ◌+◌, ◌-◌, Bool, true, false, not, ◌&&◌, List, [], ◌∷◌, ◌++◌, eqb, leb, ltb, length, get_or}
+use Rattle.std.specs.Prelude.{ℕ, zero, suc, ◌+◌, ◌-◌, Bool, true, false, not, ◌&&◌, List, [], ◌∷◌, ◌++◌, Ok, Err, eqb, leb, ltb, length, get_or}
 use Rattle.answer.specs.declared.refusal.Why.{Why}
 use Rattle.answer.specs.declared.refusal.Why.TheVariants.{CutShort, NumberWrong, OutOfRange, TooManySteps, BlockSizeWrong}
 use Rattle.ground.specs.Bytes.{byte_at}
-use Rattle.binary.specs.Numbers.{int_at, long_at, is_negative, absolute}
-use Rattle.binary.specs.declared.number.Number.{Number}
-use Rattle.binary.specs.declared.number.Number.TheVariants.{Is, Cut, Wrong}
+use Rattle.binary.specs.Numbers.{Number, int_at, long_at, is_negative, absolute}
+use Rattle.binary.specs.declared.number.NumberError.TheVariants.{Cut, Wrong}
 use Rattle.row.specs.Rows.{Row}
 use Rattle.row.specs.declared.kind.Kind.{Kind}
 use Rattle.row.specs.declared.kind.Kind.TheVariants.{Null, Boolean, Int, Long, Float, Double, Bytes, String, Reference, Array, Map, Union, Record, Enum, Fixed, Field, Symbol, Alias, FieldAlias}
@@ -56,9 +55,8 @@ spent h = record { at = h.at; left = h.left - 1; given = h.given }
 
 -- a block's size, with the block behind it: is it right for a block that ends here?
 unfoldable pub is_size : Number → ℕ → Bool
-is_size (Is z from) to = not (is_negative z) && eqb (from + absolute z) to
-is_size Cut to = false
-is_size Wrong to = false
+is_size (Ok (z, from)) to = not (is_negative z) && eqb (from + absolute z) to
+is_size (Err e) to = false
 
 module _ (bytes : List ℕ) where
   -- so many bytes, whatever they are
@@ -67,9 +65,9 @@ module _ (bytes : List ℕ) where
 
   -- a number, and what comes of it
   unfoldable pub on_number : Number → (ℕ → Stand → Outcome) → Stand → Outcome
-  on_number (Is v to) next h = next v (moved_to to h)
-  on_number Cut next h = stopped CutShort (length bytes)
-  on_number Wrong next h = stopped NumberWrong h.at
+  on_number (Ok (v, to)) next h = next v (moved_to to h)
+  on_number (Err Cut) next h = stopped CutShort (length bytes)
+  on_number (Err Wrong) next h = stopped NumberWrong h.at
 
   abbrev pub on_int : (ℕ → Stand → Outcome) → Stand → Outcome
   on_int next h = on_number (int_at bytes h.at) next h

@@ -1,129 +1,94 @@
-// Data that have no parts: what each reader says of the bytes from an offset on.
+// Data that have no parts: what each reader says of the bytes from an offset on, the offset behind the datum or what is wrong.
 ghost use Rattle.std.specs.Prelude.{◌≡◌, ◌≤◌, length};
 ghost use Rattle.binary.specs.Numbers.{long_at};
-ghost use Rattle.walk.specs.Walk.{passed, on_int, on_long, flag, counted, is_size, went};
-ghost use Rattle.walk.specs.declared.states.Read.TheVariants.{Bad};
-ghost use Rattle.walk.specs.Steps.{leaf_of, Reads, Chooses};
+ghost use Rattle.walk.specs.Walk.{passed, flag, counted, is_size};
+ghost use Rattle.walk.specs.Steps.{numbered, leaf_of, Reads, Chooses};
 
-use crate::states::{Choice, Read};
 use answer::{Fault, Why};
-use binary::number::Number;
+use binary::number::{Number, NumberError};
 use binary::{absolute, int_at, is_negative, long_at};
 use row::Kind;
 
-fn bad(why: Why, at: usize) -> Read
-    ensures { result ≡ Bad (record { why = why; at = at }) }
+pub(crate) fn fault(why: Why, at: usize) -> Fault
+    ensures { result ≡ record { why = why; at = at } }
 {
-    Read::Bad(Fault { why, at })
+    Fault { why, at }
+}
+
+// A number that was asked for at an offset.
+#[tactic(auto, unfolding(crate::specs::Steps::numbered))]
+pub(crate) fn number(read: Number, bytes: &[u8], at: usize) -> Result<(u64, usize), Fault>
+    ensures { result ≡ numbered (length bytes.now) at read }
+{
+    match read {
+        Ok(n) => Ok(n),
+        Err(NumberError::Cut) => Err(fault(Why::CutShort, bytes.len())),
+        Err(NumberError::Wrong) => Err(fault(Why::NumberWrong, at)),
+    }
 }
 
 // So many bytes, whatever they are.
-fn pass(bytes: &[u8], at: usize, n: u64) -> Read
+fn pass(bytes: &[u8], at: usize, n: u64) -> Result<usize, Fault>
     requires { at ≤ length bytes.now }
     ensures { Reads bytes.now at result (passed bytes.now n) }
 {
     let room = bytes.len() - at;
     if (room as u64) < n {
-        return bad(Why::CutShort, bytes.len());
+        return Err(fault(Why::CutShort, bytes.len()));
     }
-    Read::To(at + n as usize)
+    Ok(at + n as usize)
 }
 
 // A boolean.
-fn flag(bytes: &[u8], at: usize) -> Read
-    requires { at ≤ length bytes.now }
+fn flag(bytes: &[u8], at: usize) -> Result<usize, Fault>
     ensures { Reads bytes.now at result (flag bytes.now) }
 {
-    if bytes.len() <= at {
-        return bad(Why::CutShort, bytes.len());
+    let Some(byte) = bytes.get(at) else {
+        return Err(fault(Why::CutShort, bytes.len()));
+    };
+    if 1 < *byte {
+        return Err(fault(Why::OutOfRange, at));
     }
-    if 1 < bytes[at] {
-        return bad(Why::OutOfRange, at);
-    }
-    Read::To(at + 1)
-}
-
-// Numbers that nothing comes of.
-fn int(bytes: &[u8], at: usize) -> Read
-    requires { at ≤ length bytes.now }
-    ensures { Reads bytes.now at result (on_int bytes.now (λ v k. went k)) }
-{
-    match int_at(bytes, at) {
-        Number::Is(_, to) => Read::To(to),
-        Number::Cut => bad(Why::CutShort, bytes.len()),
-        Number::Wrong => bad(Why::NumberWrong, at),
-    }
-}
-
-fn long(bytes: &[u8], at: usize) -> Read
-    requires { at ≤ length bytes.now }
-    ensures { Reads bytes.now at result (on_long bytes.now (λ v k. went k)) }
-{
-    match long_at(bytes, at) {
-        Number::Is(_, to) => Read::To(to),
-        Number::Cut => bad(Why::CutShort, bytes.len()),
-        Number::Wrong => bad(Why::NumberWrong, at),
-    }
+    Ok(at + 1)
 }
 
 // A length, and so many bytes.
-pub(crate) fn counted(bytes: &[u8], at: usize) -> Read
-    requires { at ≤ length bytes.now }
+pub(crate) fn counted(bytes: &[u8], at: usize) -> Result<usize, Fault>
     ensures { Reads bytes.now at result (counted bytes.now) }
 {
-    match long_at(bytes, at) {
-        Number::Is(v, to) => {
-            if is_negative(v) {
-                return bad(Why::NumberWrong, at);
-            }
-            pass(bytes, to, absolute(v))
-        }
-        Number::Cut => bad(Why::CutShort, bytes.len()),
-        Number::Wrong => bad(Why::NumberWrong, at),
+    let (v, to) = number(long_at(bytes, at), bytes, at)?;
+    if is_negative(v) {
+        return Err(fault(Why::NumberWrong, at));
     }
+    pass(bytes, to, absolute(v))
 }
 
 // A datum that has no parts, by its kind; a fixed has a size.
-pub(crate) fn leaf(bytes: &[u8], kind: Kind, size: u64, at: usize) -> Read
+pub(crate) fn leaf(bytes: &[u8], kind: Kind, size: u64, at: usize) -> Result<usize, Fault>
     requires { at ≤ length bytes.now }
     ensures { Reads bytes.now at result (leaf_of bytes.now kind size) }
 {
     match kind {
         Kind::Boolean => flag(bytes, at),
-        Kind::Int => int(bytes, at),
-        Kind::Long => long(bytes, at),
+        Kind::Int => Ok(number(int_at(bytes, at), bytes, at)?.1),
+        Kind::Long => Ok(number(long_at(bytes, at), bytes, at)?.1),
         Kind::Float => pass(bytes, at, 4),
         Kind::Double => pass(bytes, at, 8),
-        Kind::Bytes => counted(bytes, at),
-        Kind::String => counted(bytes, at),
+        Kind::Bytes | Kind::String => counted(bytes, at),
         Kind::Fixed => pass(bytes, at, size),
-        _ => Read::To(at),
+        _ => Ok(at),
     }
 }
 
-// An int that says which part.
-pub(crate) fn choice(bytes: &[u8], at: usize) -> Choice
-    requires { at ≤ length bytes.now }
+// An int that says which part, from 0, and the offset behind it.
+pub(crate) fn choice(bytes: &[u8], at: usize) -> Result<(u64, usize), Fault>
     ensures { Chooses bytes.now at result }
 {
-    match int_at(bytes, at) {
-        Number::Is(v, to) => {
-            if is_negative(v) {
-                return Choice::None(Fault {
-                    why: Why::OutOfRange,
-                    at,
-                });
-            }
-            Choice::Part(absolute(v), to)
-        }
-        Number::Cut => Choice::None(Fault {
-            why: Why::CutShort,
-            at: bytes.len(),
-        }),
-        Number::Wrong => Choice::None(Fault {
-            why: Why::NumberWrong,
-            at,
-        }),
+    let (v, to) = number(int_at(bytes, at), bytes, at)?;
+    if is_negative(v) {
+        Err(fault(Why::OutOfRange, at))
+    } else {
+        Ok((absolute(v), to))
     }
 }
 
@@ -131,17 +96,11 @@ pub(crate) fn choice(bytes: &[u8], at: usize) -> Choice
 pub(crate) fn is_size(bytes: &[u8], size: usize, to: usize) -> bool
     ensures { result ≡ is_size (long_at bytes.now size) to }
 {
-    match long_at(bytes, size) {
-        Number::Is(z, from) => {
-            if is_negative(z) {
-                return false;
-            }
-            if to < from {
-                return false;
-            }
-            absolute(z) == (to - from) as u64
-        }
-        Number::Cut => false,
-        Number::Wrong => false,
+    let Ok((z, from)) = long_at(bytes, size) else {
+        return false;
+    };
+    if is_negative(z) || to < from {
+        return false;
     }
+    absolute(z) == (to - from) as u64
 }

@@ -14,9 +14,9 @@ ghost use Rattle.row.specs.Sets.{rows_from};
 ghost use Rattle.walk.specs.Walk.{walked, steps};
 ghost use Rattle.walk.specs.Steps.{type_at, Gave};
 
-use answer::Counts;
+use answer::{Counts, Fault};
 use frames::resume;
-use states::{Here, Turn, Walked};
+use states::Here;
 use turns::visit;
 
 // A walk has so many steps. Each offset that it gives costs one, and the end's is one more.
@@ -27,9 +27,16 @@ pub const OFFSETS: usize = STEPS + 1;
 // A frame is three numbers, and costs a step.
 const FRAMES: usize = 3 * STEPS;
 
-// Walks the datum that stands in the bytes from an offset on, by the type at a row of the first n. The offsets go into the list, which is spoilt
-// where the walk stops.
-pub fn walk(mem: &[u8], n: usize, row: usize, bytes: &[u8], at: usize, list: &mut [usize]) -> Walked
+// Walks the datum that stands in the bytes from an offset on, by the type at a row of the first n: where it ends, and how many offsets were given. They go
+// into the list, which is spoilt where the walk stops.
+pub fn walk(
+    mem: &[u8],
+    n: usize,
+    row: usize,
+    bytes: &[u8],
+    at: usize,
+    list: &mut [usize],
+) -> Result<(usize, usize), Fault>
     requires { (length mem.now ≡ layout_length) × (n ≤ row_limit) × (row < n) × (at ≤ length bytes.now) × (length list.old ≡ steps + 1) }
     ensures { Gave list.new (walked (rows_from mem.now n 0) bytes.now (type_at mem.now n row) at) result }
 {
@@ -41,11 +48,11 @@ pub fn walk(mem: &[u8], n: usize, row: usize, bytes: &[u8], at: usize, list: &mu
         left: STEPS,
         given: 0,
         depth: 0,
-        row,
+        row: Some(row),
     };
     loop {
-        if here.row < Here::NONE {
-            match visit(
+        here = match here.row {
+            Some(row) => visit(
                 mem,
                 n,
                 bytes,
@@ -53,19 +60,11 @@ pub fn walk(mem: &[u8], n: usize, row: usize, bytes: &[u8], at: usize, list: &mu
                 &mut next,
                 &mut frames,
                 list,
+                row,
                 here,
-            ) {
-                Turn::On(h) => here = h,
-                Turn::Stop(f) => return Walked::Stopped(f),
-            }
-            continue;
-        }
-        if here.depth == 0 {
-            return Walked::End(here.at, here.given);
-        }
-        match resume(mem, n, bytes, &mut next, &mut frames, here) {
-            Turn::On(h) => here = h,
-            Turn::Stop(f) => return Walked::Stopped(f),
-        }
+            )?,
+            None if here.depth == 0 => return Ok((here.at, here.given)),
+            None => resume(mem, n, bytes, &mut next, &mut frames, here)?,
+        };
     }
 }

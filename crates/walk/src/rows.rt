@@ -16,13 +16,7 @@ use row::read::{depth_at, kind_number};
 fn is_part(kind: u8) -> bool
     ensures { (k : Kind) → kind ≡ kind_number k → result ≡ is_part k }
 {
-    if is_kind(Kind::Alias, kind) {
-        return false;
-    }
-    if is_kind(Kind::FieldAlias, kind) {
-        return false;
-    }
-    true
+    !is_kind(Kind::Alias, kind) && !is_kind(Kind::FieldAlias, kind)
 }
 
 // The first part of a depth from a row on, up to the first row that is less deep; n where there is none.
@@ -30,18 +24,14 @@ pub(crate) fn next_part(mem: &[u8], n: usize, start: usize, depth: usize) -> usi
     requires { (length mem.now ≡ layout_length) × (n ≤ row_limit) }
     ensures { FirstPart mem.now n depth start result }
 {
-    let mut i = start;
-    while i < n {
+    for i in start..n {
         let d = depth_at(mem, i);
         if d < depth {
             return n;
         }
-        if d == depth {
-            if is_part(kind_number(mem, i)) {
-                return i;
-            }
+        if d == depth && is_part(kind_number(mem, i)) {
+            return i;
         }
-        i += 1;
     }
     n
 }
@@ -63,15 +53,13 @@ pub(crate) fn part_number(mem: &[u8], n: usize, next: &mut [u16], i: usize, numb
         × Follows mem.now n next.new }
 {
     let mut r = first_part(mem, n, i);
-    let mut left = number;
-    while r < n {
-        if left == 0 {
-            return r;
+    for _ in 0..number {
+        if n <= r {
+            return n;
         }
         r = follower(mem, n, next, r);
-        left -= 1;
     }
-    n
+    r
 }
 
 // Is the type at row i a map?
@@ -79,10 +67,7 @@ pub(crate) fn is_map(mem: &[u8], n: usize, i: usize) -> bool
     requires { (length mem.now ≡ layout_length) × (n ≤ row_limit) }
     ensures { result ≡ is_map (type_at mem.now n i) }
 {
-    if i < n {
-        return is_kind(Kind::Map, kind_number(mem, i));
-    }
-    false
+    i < n && is_kind(Kind::Map, kind_number(mem, i))
 }
 
 // The type of an array's items or a map's values.
@@ -90,8 +75,5 @@ pub(crate) fn inside(mem: &[u8], n: usize, i: usize) -> usize
     requires { (length mem.now ≡ layout_length) × (n ≤ row_limit) }
     ensures { (result ≤ n) × (type_at mem.now n result ≡ inside (type_at mem.now n i)) }
 {
-    if i < n {
-        return first_part(mem, n, i);
-    }
-    n
+    if i < n { first_part(mem, n, i) } else { n }
 }

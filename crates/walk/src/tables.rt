@@ -1,29 +1,20 @@
 // Tables of what was found once: the entry of a row is 0, or 1 + another row. Nothing is trusted to be there.
-ghost use Rattle.std.specs.Prelude.{◌≡◌, ◌+◌, ◌≤◌, ◌<◌, length, get_or, set};
+ghost use Rattle.std.specs.Prelude.{◌≡◌, ◌+◌, ◌≤◌, ◌<◌, length, set};
 ghost use Rattle.row.specs.Layout.{row_limit, layout_length};
 ghost use Rattle.row.specs.Sets.{rows_from};
 ghost use Rattle.row.specs.Memory.{text_at, entry_at};
 ghost use Rattle.resolve.specs.Resolve.{definition_in};
-ghost use Rattle.walk.specs.Steps.{type_at, Found, Follows, FirstPart};
+ghost use Rattle.walk.specs.Steps.{type_at, held, Found, Follows, FirstPart};
 
 use crate::rows::next_part;
 use resolve::definition_of;
 use row::read::depth_at;
 
-fn wide(e: u16) -> usize
-    ensures { result ≡ e }
+// The row that a table holds for a row, if it holds one.
+fn held(table: &[u16], row: usize) -> Option<usize>
+    ensures { result ≡ held table.now row }
 {
-    e as usize
-}
-
-// What a table holds for a row, 0 where it holds nothing.
-fn held(table: &[u16], row: usize) -> usize
-    ensures { result ≡ get_or table.now row 0 }
-{
-    if row < table.len() {
-        return wide(table[row]);
-    }
-    0
+    usize::from(*table.get(row)?).checked_sub(1)
 }
 
 // Notes row d for a row, where there is room.
@@ -42,9 +33,8 @@ pub(crate) fn definition(mem: &[u8], n: usize, found: &mut [u16], row: usize) ->
     ensures { (result ≤ n) × (type_at mem.now n result ≡ definition_in (text_at mem.now row) (rows_from mem.now n 0))
         × Found mem.now n found.new }
 {
-    let known = held(found, row);
-    if known != 0 {
-        return known - 1;
+    if let Some(d) = held(found, row) {
+        return d;
     }
     let d = definition_of(mem, n, row);
     keep(found, row, d);
@@ -57,9 +47,8 @@ pub(crate) fn follower(mem: &[u8], n: usize, next: &mut [u16], row: usize) -> us
     ensures { FirstPart mem.now n (entry_at mem.now row).depth (row + 1) result
         × Follows mem.now n next.new }
 {
-    let known = held(next, row);
-    if known != 0 {
-        return known - 1;
+    if let Some(d) = held(next, row) {
+        return d;
     }
     let d = next_part(mem, n, row + 1, depth_at(mem, row));
     keep(next, row, d);

@@ -1,23 +1,15 @@
 -- `binary::int_at` meets its contract: what has five groups at most is asked for 32 bits.
 -- Assumes nothing.
-use mathlib.Core.Path.{sym}
-use native.Mathlib.Omega.{arith}
-use Rattle.binary.proofs.Laws.{int_past}
-use Rattle.binary.proofs.Widths.{int_is, int_over, int_cut, int_wrong}
-use borrow.Author.Rules.{rules}
+use Rattle.std.proofs.Common.{arith}
+use Rattle.std.proofs.lemmas.Result.{err_from_is_err_and}
+use Rattle.binary.proofs.Widths.{int_is, int_over, int_err}
 use Rattle.binary.proofs.int_at.Goals as goal
 
-pub returns-then-bytes-at : goal.returns-then-bytes-at
-returns-then-bytes-at c = sym (int_past _ _ c.if-bytes-at.true)
+pub returns-in_err-value : goal.returns-in_err-value
+returns-in_err-value c = let p = err_from_is_err_and c.from_residual.result c.from_residual.ensures.1 in rw (p.1, p.2) (int_err _ _ c.read.ensures (omega arith) _ c.in_err-value.was)
 
-pub returns-then-v-ge4294967296 : goal.returns-then-v-ge4294967296
-returns-then-v-ge4294967296 c = int_over _ _ c.read.ensures (omega arith) _ _ c.in-Is.is c.if-v-ge4294967296.true
+pub returns-then-value-from : goal.returns-then-value-from
+returns-then-value-from c = int_is _ _ c.read.ensures (omega arith) _ _ c.in_ok-value.was (omega (arith, c.from.ensures))
 
-pub returns-else-v-ge4294967296 : goal.returns-else-v-ge4294967296
-returns-else-v-ge4294967296 c = int_is _ _ c.read.ensures (omega arith) _ _ c.in-Is.is c.if-v-ge4294967296.false
-
-pub returns-in-Cut : goal.returns-in-Cut
-returns-in-Cut c = int_cut _ _ c.read.ensures (omega arith) c.in-Cut.is
-
-pub returns-in-Wrong : goal.returns-in-Wrong
-returns-in-Wrong c = int_wrong _ _ c.read.ensures (omega arith) c.in-Wrong.is
+pub returns-else-value-from : goal.returns-else-value-from
+returns-else-value-from c = int_over _ _ c.read.ensures (omega arith) _ _ c.in_ok-value.was (omega (arith, c.from.ensures))

@@ -1,7 +1,7 @@
 -- `walk::rows::first_part` meets its contract.
 -- Assumes nothing.
-use Prim.Native.Nat.{ℕ, ◌+◌}
-use mathlib.Core.Path.{ap}
+use Rattle.std.proofs.Common.{ap}
+use Rattle.std.proofs.Common.{ℕ, ◌+◌}
 use Rattle.walk.proofs.RowLaws.{part_depth}
 use Rattle.walk.proofs.rows.first_part.Goals as goal
 

@@ -1,17 +1,13 @@
 -- `walk::rows::is_part` meets its contract.
 -- Assumes nothing.
-use mathlib.Core.Path.{◌∙◌, sym}
+use Rattle.std.proofs.Common.{not, sym, ap, ◌∙◌}
 use Rattle.walk.specs.Parts.{is_part}
 use Rattle.walk.proofs.rows.is_part.Goals as goal
 
-pub returns-then-is_kind : goal.returns-then-is_kind
+pub returns-then-not-is_kind : goal.returns-then-not-is_kind
 unfolding is_part
-returns-then-is_kind c = λ k e. rw (sym (c.is_kind.ensures k e) ∙ c.if-is_kind.true)
+returns-then-not-is_kind c = λ k e. rw (sym (c.is_kind.ensures k e) ∙ c.if-not-is_kind.true) (ap not (c.is_kind-then-not-is_kind.ensures k e))
 
-pub returns-then-is_kind-2 : goal.returns-then-is_kind-2
+pub returns-else-not-is_kind : goal.returns-else-not-is_kind
 unfolding is_part
-returns-then-is_kind-2 c = λ k e. rw ((sym (c.is_kind.ensures k e) ∙ c.if-is_kind.false), (sym (c.is_kind-2.ensures k e) ∙ c.if-is_kind-2.true))
-
-pub returns : goal.returns
-unfolding is_part
-returns c = λ k e. rw ((sym (c.is_kind.ensures k e) ∙ c.if-is_kind.false), (sym (c.is_kind-2.ensures k e) ∙ c.if-is_kind-2.false))
+returns-else-not-is_kind c = λ k e. rw (c.if-not-is_kind.false, sym (c.is_kind.ensures k e) ∙ c.if-not-is_kind.false)
