@@ -1,16 +1,12 @@
 -- Text put into a buffer: nothing, one piece after the other, and that it is the text written by another name.
 -- Assumes nothing.
 use mathlib.Core.Path.{◌≡◌, sym, ap, subst, ◌∙◌}
-use mathlib.Core.Bool.{false}
 use mathlib.Core.List.{List, [], ◌++◌}
-use Prim.Native.Nat.{ℕ, ◌+◌, ◌-◌, ◌≤◌, ◌<◌}
-use native.Mathlib.Decide.{dec_le}
+use Prim.Native.Nat.{ℕ, ◌+◌, ◌≤◌}
 use native.Mathlib.Omega.{arith}
-use lib.Dec.{leb}
 use lib.ListN.{length, length-append}
-use borrow.Author.Tests.{le-leb, lt-leb}
 use Rattle.ground.specs.Bytes.{store}
-use Rattle.ground.proofs.Laws.{never, length_store, store_none, store_then}
+use Rattle.ground.proofs.Laws.{length_store, store_none, store_then}
 use Rattle.script.specs.Put.{Put}
 
 pub put_none : {m : List ℕ} {at : ℕ} → Put m at [] m at

@@ -7,14 +7,14 @@ use Prim.Native.Nat.{ℕ, suc, ◌+◌, ◌-◌, ◌<◌, ◌≤◌}
 use native.Mathlib.Omega.{arith}
 use lib.Dec.{eqb, leb}
 use lib.ListN.{length}
-use borrow.Author.Tests.{eq-eqb, ne_eqb, eqb-true, leb-true}
+use borrow.Author.Tests.{eqb-true, leb-true}
 use Rattle.ground.proofs.Laws.{and_true}
 use Rattle.row.specs.Layout.{row_limit, layout_length}
 use Rattle.row.specs.Memory.{entry_at, text_at, default_at}
 use Rattle.row.specs.declared.Entry.{Entry}
 use Rattle.script.specs.Lines.{row_line, row_lines, has_rows, rows_text}
 use Rattle.script.specs.Put.{Put}
-use Rattle.script.proofs.Laws.{put_none, put_then, put_is, room_none, room_rest}
+use Rattle.script.proofs.Laws.{put_none, put_then, put_is}
 use Rattle.script.proofs.HexLaws.{Rest}
 
 pub line_is : {e e' : Entry} {a a' d d' : List ℕ} → e ≡ e' → a ≡ a' → d ≡ d' → row_line e a d ≡ row_line e' a' d'

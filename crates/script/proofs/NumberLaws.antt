@@ -13,13 +13,13 @@ use lib.IntN.{ℤ, pos, negsuc, nat_abs}
 use lib.Signed.{lt_z}
 use lib.ListN.{length, get_or, take, drop, drop_of_length-le}
 use lib.Seq.{drop-cons}
-use borrow.Author.Tests.{lt-ltb, le-ltb, lt-leb, le-leb, eqb-true, ltb-true}
+use borrow.Author.Tests.{lt-ltb, le-ltb, eqb-true, ltb-true}
 use mir.Syntax.{w64}
 use mir.Val.{SFits, of_z, to_z}
 use mir.Facts.{to_z-of_z}
 use Rattle.ground.proofs.Laws.{never}
 use Rattle.io.specs.Digits.{last_digits, IsDigitCount}
-use Rattle.script.specs.Numbers.{inside, is_digit, fitting, number_from, number_of, digits_of, decimal_of, signed_of}
+use Rattle.script.specs.Numbers.{is_digit, fitting, number_from, number_of, digits_of, decimal_of, signed_of}
 use Rattle.std.specs.Prelude.{Option, Some, None}
 
 -- ---- reading
