@@ -1,5 +1,5 @@
 // The calls of the library, and their answers.
-use crate::memory::{fill, first};
+use crate::memory::first;
 use crate::report::{put_answer, put_last, put_ok, put_refusal_with, put_what};
 use answer::{Refusal, Why};
 use canonical::{Print, Written};
@@ -15,11 +15,10 @@ use set::Naming;
 // The full name, or where it is empty what the call says that tells why.
 fn name(stdout: &mut Output, mem: &[u8], place: usize, row: usize, out: &mut [u8]) -> usize {
     let name = set::full_name(mem, place, row);
-    if name.len() == 0 {
-        match set::naming_of(mem, place, row) {
-            Naming::Refused(r) => return put_refusal(stdout, out, 0, r),
-            Naming::Named(_) => {}
-        }
+    if name.is_empty()
+        && let Naming::Refused(r) = set::naming_of(mem, place, row)
+    {
+        return put_refusal(stdout, out, 0, r);
     }
     let at = put(stdout, out, 0, b"ok");
     put_last(stdout, out, at, name)
@@ -33,7 +32,7 @@ fn canonical_into(
     buffer: &mut [u8],
     out: &mut [u8],
 ) -> usize {
-    fill(buffer, 170);
+    buffer.fill(170);
     match canonical::canonical(mem, place, buffer, offset) {
         Written::Refused(r) => put_refusal_with(stdout, out, r, buffer),
         Written::Length(n) => {
@@ -56,18 +55,16 @@ fn canonical_text(
     if buffer.len() < room {
         return put_what(stdout, out);
     }
-    canonical_into(stdout, mem, place, offset, &mut buffer[0..room], out)
+    canonical_into(stdout, mem, place, offset, &mut buffer[..room], out)
 }
 
 fn fingerprint(stdout: &mut Output, mem: &[u8], place: usize, out: &mut [u8]) -> usize {
     match canonical::fingerprint(mem, place) {
         Print::Refused(r) => put_refusal(stdout, out, 0, r),
         Print::Fingerprint(n) => {
-            let state = Rabin { state: n };
-            let bytes = state.bytes();
             let a = put(stdout, out, 0, b"ok ");
             let b = put_signed(stdout, out, a, n);
-            put_last(stdout, out, b, &bytes)
+            put_last(stdout, out, b, &Rabin { state: n }.bytes())
         }
     }
 }
@@ -97,9 +94,8 @@ fn scan(stdout: &mut Output, text: &[u8], out: &mut [u8]) -> usize {
 }
 
 fn digest(stdout: &mut Output, mem: &[u8], out: &mut [u8]) -> usize {
-    let bytes = Rabin::new().update(mem).bytes();
     let at = put(stdout, out, 0, b"digest");
-    put_last(stdout, out, at, &bytes)
+    put_last(stdout, out, at, &Rabin::new().update(mem).bytes())
 }
 
 // The answer to a call; memory is what is lent to it.
