@@ -14,8 +14,8 @@ use std::io::Stdin;
 // The fingerprint behind the first `at` bytes of output, and the line's end.
 fn put_print(stdout: &mut Output, mem: &[u8], out: &mut [u8], at: usize) -> usize {
     match canonical::fingerprint(mem, 0) {
-        Print::Refused(r) => put_refusal(stdout, out, at, r),
-        Print::Fingerprint(n) => {
+        Err(r) => put_refusal(stdout, out, at, r),
+        Ok(n) => {
             let a = put_signed(stdout, out, at, n);
             put(stdout, out, a, b"\n")
         }
@@ -25,8 +25,8 @@ fn put_print(stdout: &mut Output, mem: &[u8], out: &mut [u8], at: usize) -> usiz
 // The canonical text and the fingerprint of the first declaration.
 fn put_canonical(stdout: &mut Output, mem: &[u8], buffer: &mut [u8], out: &mut [u8]) -> usize {
     match canonical::canonical(mem, 0, buffer, 0) {
-        Written::Refused(r) => put_refusal(stdout, out, 0, r),
-        Written::Length(n) => {
+        Err(r) => put_refusal(stdout, out, 0, r),
+        Ok(n) => {
             if buffer.len() < n {
                 return 0;
             }

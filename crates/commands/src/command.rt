@@ -26,5 +26,4 @@ pub enum Command {
     // A place in memory and bytes.
     Poke(usize, usize),
     Ask(Call),
-    Unknown,
 }

@@ -9,39 +9,21 @@ use name::Full;
 use std::io;
 use std::io::Stdout;
 
-fn symbol(k: usize) -> u8 {
-    match k {
-        0 => b'a',
-        1 => b'1',
-        2 => b'_',
-        3 => b'.',
-        4 => 0xc3,
-        _ => 0xa9,
-    }
-}
-
-fn wide(b: u8) -> u64 {
-    b as u64
-}
+// The six bytes of the strings.
+const SYMBOLS: [u8; 6] = [b'a', b'1', b'_', b'.', 0xc3, 0xa9];
 
 fn print_bytes(stdout: Stdout, s: &[u8]) -> io::Result<()> {
-    if s.len() == 0 {
+    if s.is_empty() {
         print!(stdout; "-")?;
     }
-    let mut i = 0;
-    while i < s.len() {
-        print!(stdout; "{:02x}", wide(s[i]))?;
-        i += 1;
+    for b in s {
+        print!(stdout; "{b:02x}")?;
     }
     Ok(())
 }
 
 fn print_flag(stdout: Stdout, flag: bool) -> io::Result<()> {
-    if flag {
-        print!(stdout; " 1")
-    } else {
-        print!(stdout; " 0")
-    }
+    print!(stdout; " {}", u8::from(flag))
 }
 
 fn print_full(stdout: Stdout, namespace: &[u8], s: &[u8]) -> io::Result<()> {
@@ -73,16 +55,14 @@ fn print_strings(stdout: Stdout, n: usize, count: usize) -> io::Result<()>
     requires { n ≤ 4 }
 {
     let start = 4 - n;
-    let mut k = 0;
-    while k < count {
+    for k in 0..count {
         let s = [
-            symbol(k / 216 % 6),
-            symbol(k / 36 % 6),
-            symbol(k / 6 % 6),
-            symbol(k % 6),
+            SYMBOLS[k / 216 % 6],
+            SYMBOLS[k / 36 % 6],
+            SYMBOLS[k / 6 % 6],
+            SYMBOLS[k % 6],
         ];
-        print_line(stdout, &s[start..4])?;
-        k += 1;
+        print_line(stdout, &s[start..])?;
     }
     Ok(())
 }

@@ -12,55 +12,25 @@ fn main(rt: HostRuntime) -> io::Result<()> {
     line(stdout, &[0x95])?;
     line(stdout, &[0x15])?;
     line(stdout, b"hello world")?;
-    single_bytes(stdout)?;
-    let counted = counting();
-    line(stdout, &counted)
+    for b in 0..=255 {
+        line(stdout, &[b])?;
+    }
+    line(stdout, &counting())
 }
 
 fn line(stdout: Stdout, bytes: &[u8]) -> io::Result<()> {
     let print = Rabin::new().update(bytes);
-    signed(stdout, print.result())?;
-    print!(stdout; " ")?;
-    let octets = print.bytes();
-    hex(stdout, &octets)?;
+    print!(stdout; "{} ", print.result())?;
+    for b in print.bytes() {
+        print!(stdout; "{b:02x}")?;
+    }
     println!(stdout)
-}
-
-fn signed(stdout: Stdout, s: i64) -> io::Result<()> {
-    if s < 0 {
-        print!(stdout; "-")?;
-    }
-    print!(stdout; "{}", ground::magnitude(s))
-}
-
-fn hex(stdout: Stdout, bytes: &[u8; 8]) -> io::Result<()> {
-    let mut i: usize = 0;
-    while i < 8 {
-        print!(stdout; "{:02x}", wide(bytes[i]))?;
-        i += 1;
-    }
-    Ok(())
-}
-
-fn wide(b: u8) -> u64 {
-    b as u64
-}
-
-fn single_bytes(stdout: Stdout) -> io::Result<()> {
-    let mut b: u64 = 0;
-    while b < 256 {
-        line(stdout, &[(b % 256) as u8])?;
-        b += 1;
-    }
-    Ok(())
 }
 
 fn counting() -> [u8; 1000] {
     let mut bytes = [0u8; 1000];
-    let mut i: usize = 0;
-    while i < 1000 {
+    for i in 0..1000 {
         bytes[i] = (i % 256) as u8;
-        i += 1;
     }
     bytes
 }

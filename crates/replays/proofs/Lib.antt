@@ -1,2 +1,1 @@
-mod MemoryLaws
 mod PlaceLaws

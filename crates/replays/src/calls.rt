@@ -1,5 +1,5 @@
 // The calls of the library, and their answers.
-use crate::memory::{fill, first};
+use crate::memory::first;
 use crate::report::{put_answer, put_last, put_ok, put_refusal_with, put_what};
 use answer::{Refusal, Why};
 use canonical::{Print, Written};
@@ -9,16 +9,14 @@ use rabin::Rabin;
 use row::read::{declarations, rows_before, rows_of};
 use script::answers::{put_refusal, put_rows, put_spaced};
 use script::output::{Output, put, put_signed};
-use set::Naming;
 
 // The full name, or where it is empty what the call says that tells why.
 fn name(stdout: &mut Output, mem: &[u8], place: usize, row: usize, out: &mut [u8]) -> usize {
     let name = set::full_name(mem, place, row);
-    if name.len() == 0 {
-        match set::naming_of(mem, place, row) {
-            Err(r) => return put_refusal(stdout, out, 0, r),
-            Ok(_) => {}
-        }
+    if name.is_empty()
+        && let Err(r) = set::naming_of(mem, place, row)
+    {
+        return put_refusal(stdout, out, 0, r);
     }
     let at = put(stdout, out, 0, b"ok");
     put_last(stdout, out, at, name)
@@ -32,10 +30,10 @@ fn canonical_into(
     buffer: &mut [u8],
     out: &mut [u8],
 ) -> usize {
-    fill(buffer, 170);
+    buffer.fill(170);
     match canonical::canonical(mem, place, buffer, offset) {
-        Written::Refused(r) => put_refusal_with(stdout, out, r, buffer),
-        Written::Length(n) => {
+        Err(r) => put_refusal_with(stdout, out, r, buffer),
+        Ok(n) => {
             let a = put(stdout, out, 0, b"ok");
             let b = put_spaced(stdout, out, a, n as u64);
             put_last(stdout, out, b, buffer)
@@ -55,18 +53,16 @@ fn canonical_text(
     if buffer.len() < room {
         return put_what(stdout, out);
     }
-    canonical_into(stdout, mem, place, offset, &mut buffer[0..room], out)
+    canonical_into(stdout, mem, place, offset, &mut buffer[..room], out)
 }
 
 fn fingerprint(stdout: &mut Output, mem: &[u8], place: usize, out: &mut [u8]) -> usize {
     match canonical::fingerprint(mem, place) {
-        Print::Refused(r) => put_refusal(stdout, out, 0, r),
-        Print::Fingerprint(n) => {
-            let state = Rabin { state: n };
-            let bytes = state.bytes();
+        Err(r) => put_refusal(stdout, out, 0, r),
+        Ok(n) => {
             let a = put(stdout, out, 0, b"ok ");
             let b = put_signed(stdout, out, a, n);
-            put_last(stdout, out, b, &bytes)
+            put_last(stdout, out, b, &Rabin { state: n }.bytes())
         }
     }
 }
@@ -96,9 +92,8 @@ fn scan(stdout: &mut Output, text: &[u8], out: &mut [u8]) -> usize {
 }
 
 fn digest(stdout: &mut Output, mem: &[u8], out: &mut [u8]) -> usize {
-    let bytes = Rabin::new().update(mem).bytes();
     let at = put(stdout, out, 0, b"digest");
-    put_last(stdout, out, at, &bytes)
+    put_last(stdout, out, at, &Rabin::new().update(mem).bytes())
 }
 
 // The answer to a call; memory is what is lent to it.

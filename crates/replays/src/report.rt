@@ -40,9 +40,8 @@ pub(crate) fn put_refusal_with(
     r: Refusal,
     bytes: &[u8],
 ) -> usize {
-    let why = r.why;
     let a = put(stdout, out, 0, b"refused");
-    let b = put_spaced(stdout, out, a, why.number() as u64);
+    let b = put_spaced(stdout, out, a, u64::from(r.why.number()));
     let c = put_spaced(stdout, out, b, r.place as u64);
     let d = put_spaced(stdout, out, c, r.at as u64);
     put_last(stdout, out, d, bytes)

@@ -3,26 +3,27 @@ ghost use Rattle.std.specs.Prelude.{◌≤◌, length};
 ghost use Rattle.row.specs.Layout.{layout_length};
 
 use crate::calls::answer;
-use crate::memory::{MEMORY, fill, first, poke};
+use crate::memory::{MEMORY, first, poke};
 use crate::report::{put_ok, put_what};
 use commands::{Command, command_of};
 use row::Layout;
-use script::input::{Line, next_line};
+use script::input::next_line;
 use script::output::{Output, flush};
 use std::io;
 use std::io::{Stdin, Stdout};
 
 fn put_done(stdout: &mut Output, done: bool, out: &mut [u8]) -> usize {
     if done {
-        return put_ok(stdout, out);
+        put_ok(stdout, out)
+    } else {
+        put_what(stdout, out)
     }
-    put_what(stdout, out)
 }
 
 // What a command does, and its answer. The calls are lent the first bytes of the memory.
 fn obey(
     stdout: &mut Output,
-    command: Command,
+    command: Option<Command>,
     text: &[u8],
     memory: &mut [u8],
     lent: usize,
@@ -32,32 +33,27 @@ fn obey(
     requires { lent ≤ length memory.old }
 {
     match command {
-        Command::Lend(n) => put_done(stdout, n <= memory.len(), out),
-        Command::Fill(byte) => {
-            fill(memory, byte);
+        Some(Command::Lend(n)) => put_done(stdout, n <= memory.len(), out),
+        Some(Command::Fill(byte)) => {
+            memory.fill(byte);
             put_ok(stdout, out)
         }
-        Command::Poke(at, n) => {
+        Some(Command::Poke(at, n)) => {
             let done = poke(memory, at, first(text, n));
             put_done(stdout, done, out)
         }
-        Command::Ask(call) => answer(stdout, call, text, &mut memory[0..lent], buffer, out),
-        Command::Unknown => put_what(stdout, out),
+        Some(Command::Ask(call)) => answer(stdout, call, text, &mut memory[..lent], buffer, out),
+        None => put_what(stdout, out),
     }
 }
 
 // How many bytes are lent after a command, of at most so many.
-fn lent_after(command: Command, lent: usize, most: usize) -> usize
+fn lent_after(command: Option<Command>, lent: usize, most: usize) -> usize
     requires { lent ≤ most }
     ensures { result ≤ most }
 {
     match command {
-        Command::Lend(n) => {
-            if n <= most {
-                return n;
-            }
-            lent
-        }
+        Some(Command::Lend(n)) if n <= most => n,
         _ => lent,
     }
 }
@@ -73,22 +69,17 @@ fn replay(
 ) -> io::Result<()>
     requires { layout_length ≤ length memory.old }
 {
-    let mut line = Line::none();
     let mut lent = Layout::LENGTH;
-    let mut turns = u64::MAX;
-    while 0 < turns {
-        line = next_line(stdin, input, line)?;
-        if !line.there {
+    let mut before = None;
+    for _ in 0..u64::MAX {
+        let Some(line) = next_line(stdin, input, before)? else {
             return Ok(());
-        }
-        let from = line.from;
-        let to = line.to;
-        let cut = line.cut;
-        let command = command_of(&input[from..to], cut, text);
+        };
+        let command = command_of(&input[line.from..line.to], line.cut, text);
         lent = lent_after(command, lent, memory.len());
         let end = obey(stdout, command, text, memory, lent, buffer, out);
         flush(stdout, out, end)?;
-        turns -= 1;
+        before = Some(line);
     }
     Ok(())
 }

@@ -3,41 +3,24 @@ use row::Layout;
 use std::io;
 use std::io::Stdout;
 
-fn digit(n: u8) -> u8 {
-    let d = n % 16;
-    if d < 10 { 48 + d } else { 87 + d }
-}
-
-pub(crate) fn hex(stdout: Stdout, s: &[u8]) -> io::Result<()> {
-    let mut i = 0;
-    while i < s.len() {
-        let pair = [digit(s[i] / 16), digit(s[i])];
-        stdout.write_all(&pair)?;
-        i += 1;
+fn hex(stdout: Stdout, s: &[u8]) -> io::Result<()> {
+    for b in s {
+        print!(stdout; "{b:02x}")?;
     }
     Ok(())
 }
 
-// The first n bytes of s.
-fn front(s: &[u8], n: usize) -> &[u8] {
-    if n < s.len() { &s[0..n] } else { s }
-}
-
-// Where the line starts, and its bytes; nothing where all are zero.
+// Where the line starts, and its bytes, at most n; nothing where all are zero.
 fn line(stdout: Stdout, mem: &[u8], at: usize, n: usize) -> io::Result<()> {
     if mem.len() <= at {
         return Ok(());
     }
-    if 65535 < at {
-        return Ok(());
-    }
-    let bytes = front(&mem[at..], n);
+    let rest = &mem[at..];
+    let bytes = &rest[..n.min(rest.len())];
     if ground::all_zero(bytes) {
         return Ok(());
     }
-    let place = [(at / 256) as u8, (at % 256) as u8];
-    hex(stdout, &place)?;
-    print!(stdout; " ")?;
+    print!(stdout; "{at:04x} ")?;
     hex(stdout, bytes)?;
     println!(stdout)
 }
@@ -45,10 +28,8 @@ fn line(stdout: Stdout, mem: &[u8], at: usize, n: usize) -> io::Result<()> {
 // The first line has 32 bytes, so that each row, of 34 bytes, has a line.
 pub(crate) fn dump(stdout: Stdout, mem: &[u8]) -> io::Result<()> {
     line(stdout, mem, 0, 32)?;
-    let mut at = 32;
-    while at < Layout::LENGTH {
+    for at in (32..Layout::LENGTH).step_by(34) {
         line(stdout, mem, at, 34)?;
-        at += 34;
     }
     Ok(())
 }

@@ -6,9 +6,9 @@ use row::{Entry, Kind};
 // A row without numbers.
 fn plain(kind: Kind, depth: u16, position: u16) -> Entry {
     Entry {
-        kind: kind,
-        depth: depth,
-        position: position,
+        kind,
+        depth,
+        position,
         size: 0,
         note: 0,
         precision: 0,
@@ -18,38 +18,26 @@ fn plain(kind: Kind, depth: u16, position: u16) -> Entry {
 
 fn decimal(kind: Kind, depth: u16, position: u16) -> Entry {
     Entry {
-        kind: kind,
-        depth: depth,
-        position: position,
-        size: 0,
         note: 1,
         precision: 72623859790382856,
         scale: 258,
+        ..plain(kind, depth, position)
     }
 }
 
 // A field whose default stands at a place of the text.
 fn defaulted(depth: u16, position: u16, at: u64) -> Entry {
     Entry {
-        kind: Kind::Field,
-        depth: depth,
-        position: position,
         size: at,
-        note: 0,
-        precision: 0,
-        scale: 0,
+        ..plain(Kind::Field, depth, position)
     }
 }
 
 fn fixed(depth: u16, position: u16, size: u64) -> Entry {
     Entry {
-        kind: Kind::Fixed,
-        depth: depth,
-        position: position,
-        size: size,
+        size,
         note: 6,
-        precision: 0,
-        scale: 0,
+        ..plain(Kind::Fixed, depth, position)
     }
 }
 
@@ -116,17 +104,10 @@ pub(crate) fn enum_declaration(mem: &mut [u8], counts: Counts) -> Counts {
 
 // The rows between two counts are the declaration at a place.
 pub(crate) fn close(mem: &mut [u8], place: usize, before: Counts, after: Counts) {
-    let from = before.rows;
-    let to = after.rows;
-    if to < from {
+    let Some(n) = after.rows.checked_sub(before.rows) else {
         return;
+    };
+    if n <= Counts::ROWS && place < Counts::DECLARATIONS {
+        row::write::declare(mem, place, n);
     }
-    let n = to - from;
-    if Counts::ROWS < n {
-        return;
-    }
-    if Counts::DECLARATIONS <= place {
-        return;
-    }
-    row::write::declare(mem, place, n);
 }

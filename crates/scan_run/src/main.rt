@@ -4,42 +4,32 @@
 
 ghost use Rattle.std.specs.Prelude.{◌<◌, ◌≤◌, length, IfOk};
 
-use answer::{Fault, Why};
+use answer::Fault;
 use std::io;
 use std::io::{Read, Stdin, Stdout};
 
-// A line so far: how many bytes of its text are there, and the digit that waits for its second, 16 if none does.
+// A line so far: how many bytes of its text are there, and the digit that waits for its second.
 #[derive(Clone, Copy)]
 struct Line {
     n: usize,
-    high: u8,
+    high: Option<u8>,
 }
 
 // The number that a hexadecimal digit stands for; 0 for another byte.
-fn digit(b: u8) -> u8
+fn value(digit: u8) -> u8
     ensures { result < 16 }
 {
-    if b < 48 {
-        0
-    } else if b < 58 {
-        b - 48
-    } else if b < 97 {
-        0
-    } else if b < 103 {
-        b - 87
-    } else {
-        0
+    match digit {
+        b'0'..=b'9' => digit - b'0',
+        b'a'..=b'f' => digit - b'a' + 10,
+        _ => 0,
     }
-}
-
-fn refused(stdout: Stdout, why: Why, at: usize) -> io::Result<()> {
-    println!(stdout; "refused {} {at}", why.number())
 }
 
 fn report(stdout: Stdout, found: Result<(), Fault>) -> io::Result<()> {
     match found {
         Ok(()) => println!(stdout; "ok"),
-        Err(f) => refused(stdout, f.why, f.at),
+        Err(f) => println!(stdout; "refused {} {}", f.why.number(), f.at),
     }
 }
 
@@ -49,31 +39,27 @@ fn take_byte(stdout: Stdout, text: &mut [u8], line: Line, b: u8) -> io::Result<L
     ensures { IfOk result (λ next. next.n ≤ length text.new) }
 {
     let n = line.n;
-    let high = line.high;
     if b == b'\n' {
-        report(stdout, json_scan::scan(&text[0..n]))?;
-        return Ok(Line { n: 0, high: 16 });
+        report(stdout, json_scan::scan(&text[..n]))?;
+        return Ok(Line { n: 0, high: None });
     }
-    let low = digit(b);
-    if high > 15 {
-        return Ok(Line { n: n, high: low });
-    }
+    let Some(high) = line.high else {
+        return Ok(Line { n, high: Some(b) });
+    };
     if n >= text.len() {
-        return Ok(Line { n: n, high: 16 });
+        return Ok(Line { n, high: None });
     }
-    text[n] = high * 16 + low;
-    Ok(Line { n: n + 1, high: 16 })
+    text[n] = value(high) * 16 + value(b);
+    Ok(Line { n: n + 1, high: None })
 }
 
 fn take_bytes(stdout: Stdout, bytes: &[u8], text: &mut [u8], start: Line) -> io::Result<Line>
     requires { start.n ≤ length text.old }
     ensures { IfOk result (λ next. next.n ≤ length text.new) }
 {
-    let mut at: usize = 0;
     let mut line = start;
-    while at < bytes.len() {
-        line = take_byte(stdout, text, line, bytes[at])?;
-        at += 1;
+    for b in bytes {
+        line = take_byte(stdout, text, line, *b)?;
     }
     Ok(line)
 }
@@ -86,15 +72,13 @@ fn read_some(mut stdin: Stdin, bytes: &mut [u8]) -> io::Result<usize>
 }
 
 fn scan_all(stdin: Stdin, stdout: Stdout, bytes: &mut [u8], text: &mut [u8]) -> io::Result<()> {
-    let mut line = Line { n: 0, high: 16 };
-    let mut turns = u64::MAX;
-    while turns > 0 {
+    let mut line = Line { n: 0, high: None };
+    for _ in 0..u64::MAX {
         let n = read_some(stdin, bytes)?;
         if n == 0 {
             return Ok(());
         }
-        line = take_bytes(stdout, &bytes[0..n], text, line)?;
-        turns -= 1;
+        line = take_bytes(stdout, &bytes[..n], text, line)?;
     }
     Ok(())
 }

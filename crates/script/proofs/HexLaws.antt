@@ -1,85 +1,21 @@
 -- Bytes in hexadecimal digits: the turns of the loops.
 -- Assumes nothing.
 use mathlib.Core.Path.{◌≡◌, refl, sym, ap, ◌∙◌}
-use mathlib.Core.Bool.{Bool, true, false, cond, ◌&&◌, ◌||◌}
+use mathlib.Core.Bool.{true, false}
 use mathlib.Core.List.{List, [], ◌∷◌, ◌++◌}
-use Prim.Native.Nat.{ℕ, zero, suc, ◌+◌, ◌-◌, ◌*◌, ◌/◌, ◌%◌, ◌<◌, ◌≤◌}
+use Prim.Native.Nat.{ℕ, suc, ◌+◌, ◌*◌, ◌/◌, ◌%◌, ◌<◌, ◌≤◌}
 use native.Mathlib.Numerals.{add-one}
 use native.Mathlib.Omega.{arith}
-use lib.Dec.{eqb, ltb}
+use lib.Dec.{eqb}
 use lib.ListN.{length, get_or, drop, drop_of_length-le, length-drop}
 use lib.Seq.{drop-cons}
-use borrow.Author.Tests.{eq-eqb, ne_eqb, lt-ltb, le-ltb}
+use borrow.Author.Tests.{eqb-true}
 use Rattle.ground.specs.Ascii.{ascii}
-use Rattle.ground.specs.Bytes.{same, store}
-use Rattle.ground.proofs.Laws.{store_append, store_none}
-use Rattle.script.specs.Numbers.{is_digit}
-use Rattle.script.specs.Hex.{is_letter, is_hex, nibble, all_hex, bytes_of, is_bytes, unhexed, word_bytes, glyph, pairs_of, hex_of}
+use Rattle.ground.specs.Bytes.{store}
+use Rattle.ground.proofs.Laws.{never, store_append, store_none}
+use Rattle.script.specs.Hex.{nibble, bytes_of, glyph, pairs_of, hex_of}
 use Rattle.script.specs.Put.{Put}
-use Rattle.script.specs.declared.hex.Unhexed.TheVariants.{Bytes, NotHex}
-use Rattle.script.proofs.NumberLaws.{bounds}
 use Rattle.script.proofs.Laws.{put_none, put_then, put_is}
-
--- ---- one digit
-
-module _ (b : ℕ) where
-  pub hex_digit : is_digit b ≡ true → true ≡ is_hex b
-  hex_digit e = rw e
-
-  pub hex_letter : (r : Bool) → is_digit b ≡ false → r ≡ is_letter b → r ≡ is_hex b
-  hex_letter r e f = rw e f
-
-  pub nibble_digit : is_digit b ≡ true → (b - 48 ≡ nibble b) × (b - 48 < 16)
-  nibble_digit e = let h = bounds 48 57 b e in (rw e, omega arith)
-
-  pub nibble_letter : is_digit b ≡ false → is_letter b ≡ true → (b - 87 ≡ nibble b) × (b - 87 < 16)
-  nibble_letter e f = let h = bounds 97 102 b f in (rw (e, f), omega arith)
-
-  pub nibble_other : is_digit b ≡ false → is_letter b ≡ false → (0 ≡ nibble b) × (0 < 16)
-  nibble_other e f = (rw (e, f), omega arith)
-
--- ---- are all hexadecimal digits?
-
-module _ (s : List ℕ) (i : ℕ) (x : Bool) (inv : all_hex (drop i s) ≡ x) where
-  pub hex_bad : i < length s → is_hex (get_or s i 0) ≡ false → false ≡ x
-  unfolding all_hex
-  hex_bad h e = sym (rw (drop-cons s i 0 h, e)) ∙ inv
-
-  pub hex_turn : i < length s → is_hex (get_or s i 0) ≡ true → all_hex (drop (i + 1) s) ≡ x
-  unfolding all_hex
-  hex_turn h e = sym (rw (drop-cons s i 0 h, e, add-one)) ∙ inv
-
-  pub hex_end : length s ≤ i → true ≡ x
-  unfolding all_hex
-  hex_end h = sym (rw (drop_of_length-le s h)) ∙ inv
-
--- ---- does a word stand for bytes?
-
-module _ (w : List ℕ) where
-  pub bytes_none : same w (ascii "-") ≡ true → true ≡ is_bytes w
-  unfolding is_bytes
-  bytes_none e = rw e
-
-  module _ (e : same w (ascii "-") ≡ false) where
-    pub bytes_empty : length w ≡ 0 → false ≡ is_bytes w
-    unfolding is_bytes
-    bytes_empty f = rw (e, f)
-
-    pub bytes_odd : (length w ≡ 0 → ⊥) → (length w % 2 ≡ 0 → ⊥) → false ≡ is_bytes w
-    unfolding is_bytes
-    bytes_odd n o = rw (e, lt-ltb 0 (length w) (omega (arith, n)), ne_eqb (length w % 2) 0 o)
-
-    pub bytes_hex : (length w ≡ 0 → ⊥) → length w % 2 ≡ 0 → all_hex w ≡ is_bytes w
-    unfolding is_bytes
-    bytes_hex n o = rw (e, lt-ltb 0 (length w) (omega (arith, n)), eq-eqb (length w % 2) 0 o)
-
-  pub unhex_bad : is_bytes w ≡ false → (out : List ℕ) → (NotHex ≡ unhexed w) × (out ≡ store out 0 (word_bytes w))
-  unfolding unhexed word_bytes
-  unhex_bad e out = rw e (refl, sym (store_none out 0))
-
-  pub unhex_bytes : is_bytes w ≡ true → (n : ℕ) (out out₁ : List ℕ) → n ≡ length (bytes_of w) → out₁ ≡ store out 0 (bytes_of w) → (Bytes n ≡ unhexed w) × (out₁ ≡ store out 0 (word_bytes w))
-  unfolding unhexed word_bytes
-  unhex_bytes e n out out₁ p q = rw e (ap Bytes p, q)
 
 -- ---- pairs of digits
 
@@ -96,31 +32,36 @@ one_pair s i h =
     let f : suc i < length s = omega arith in
     rw (drop-cons s i 0 (omega arith), drop-cons s (suc i) 0 f, add-one, e)
 
-module _ (s out x : List ℕ) (i n y : ℕ) (inv : store out n (bytes_of (drop i s)) ≡ x) (count : n + length (bytes_of (drop i s)) ≡ y) where
-  pub pair_turn : (b : ℕ) (out₁ : List ℕ) → i + 1 < length s → b ≡ nibble (get_or s i 0) * 16 + nibble (get_or s (i + 1) 0) → out₁ ≡ store out n (b ∷ []) → (store out₁ (n + 1) (bytes_of (drop (i + 2) s)) ≡ x) × (n + 1 + length (bytes_of (drop (i + 2) s)) ≡ y)
+module _ (s out x : List ℕ) (n : ℕ) (inv : store out n (bytes_of (drop (2 * n) s)) ≡ x) where
+  pub pair_turn : (b : ℕ) (out₁ : List ℕ) → n < length s / 2 → b ≡ nibble (get_or s (2 * n) 0) * 16 + nibble (get_or s (2 * n + 1) 0) → out₁ ≡ store out n (b ∷ []) → store out₁ (n + 1) (bytes_of (drop (2 * (n + 1)) s)) ≡ x
   pair_turn b out₁ h e f =
-      let g : bytes_of (drop i s) ≡ b ∷ bytes_of (drop (i + 2) s) = rw e (one_pair s i h) in
-      let k : length (bytes_of (drop i s)) ≡ suc (length (bytes_of (drop (i + 2) s))) = ap length g in
-      ((rw f (store_append out n (b ∷ []) (bytes_of (drop (i + 2) s)))) ∙ ap (store out n) (sym g) ∙ inv, omega arith)
+      let k : 2 * (n + 1) ≡ 2 * n + 2 = omega arith in
+      let g : bytes_of (drop (2 * n) s) ≡ b ∷ bytes_of (drop (2 * n + 2) s) = rw e (one_pair s (2 * n) (omega arith)) in
+      rw (k, f) (store_append out n (b ∷ []) (bytes_of (drop (2 * n + 2) s))) ∙ ap (store out n) (sym g) ∙ inv
 
-  pub pair_end : length s ≤ i + 1 → (n ≡ y) × (out ≡ x)
+  pub pair_end : length s / 2 ≤ n → out ≡ x
   pair_end h =
-      let l : length (drop i s) ≤ 1 = simp length-drop (omega arith) in
-      let g : bytes_of (drop i s) ≡ [] = few (drop i s) l in
-      let k : length (bytes_of (drop i s)) ≡ 0 = ap length g in
-      (omega arith, sym (store_none out n) ∙ ap (store out n) (sym g) ∙ inv)
+      let l : length (drop (2 * n) s) ≤ 1 = simp length-drop (omega arith) in
+      let g : bytes_of (drop (2 * n) s) ≡ [] = few (drop (2 * n) s) l in
+      sym (store_none out n) ∙ ap (store out n) (sym g) ∙ inv
+
+pub count_pairs : (s : List ℕ) → length s / 2 ≡ length (bytes_of s)
+unfolding bytes_of
+count_pairs [] = refl
+count_pairs (a ∷ []) = refl
+count_pairs (a ∷ b ∷ s) = let e = count_pairs s in omega arith
 
 -- ---- writing
 
-pub hex_none : (s : List ℕ) → length s ≡ 0 → ascii "-" ≡ hex_of s
+pub hex_none : (s : List ℕ) → eqb (length s) 0 ≡ true → ascii "-" ≡ hex_of s
 unfolding hex_of
 hex_none [] e = refl
-hex_none (b ∷ s) e = absurd (omega arith)
+hex_none (b ∷ s) e = absurd (omega (arith, eqb-true (length (b ∷ s)) 0 e))
 
-pub hex_some : (s : List ℕ) → (length s ≡ 0 → ⊥) → pairs_of s ≡ hex_of s
+pub hex_some : (s : List ℕ) → eqb (length s) 0 ≡ false → pairs_of s ≡ hex_of s
 unfolding hex_of
-hex_some [] n = absurd (n refl)
-hex_some (b ∷ s) n = refl
+hex_some [] e = never (sym e)
+hex_some (b ∷ s) e = refl
 
 -- what is put after this gives the whole
 abbrev pub Rest : List ℕ → ℕ → List ℕ → List ℕ → ℕ → List ℕ → Type 0

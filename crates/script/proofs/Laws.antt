@@ -1,16 +1,12 @@
 -- Text put into a buffer: nothing, one piece after the other, and that it is the text written by another name.
 -- Assumes nothing.
 use mathlib.Core.Path.{◌≡◌, sym, ap, subst, ◌∙◌}
-use mathlib.Core.Bool.{true, false}
 use mathlib.Core.List.{List, [], ◌++◌}
-use Prim.Native.Nat.{ℕ, ◌+◌, ◌-◌, ◌≤◌, ◌<◌}
-use native.Mathlib.Decide.{dec_le}
+use Prim.Native.Nat.{ℕ, ◌+◌, ◌≤◌}
 use native.Mathlib.Omega.{arith}
-use lib.Dec.{leb}
 use lib.ListN.{length, length-append}
-use borrow.Author.Tests.{le-leb, lt-leb}
 use Rattle.ground.specs.Bytes.{store}
-use Rattle.ground.proofs.Laws.{never, length_store, store_none, store_then}
+use Rattle.ground.proofs.Laws.{length_store, store_none, store_then}
 use Rattle.script.specs.Put.{Put}
 
 pub put_none : {m : List ℕ} {at : ℕ} → Put m at [] m at
@@ -27,20 +23,5 @@ put_then {m} {at} {s} {m₁} {a} {t} {m₂} {b} p q = record { whole = both }
         let y = q.whole (omega arith) in
         (omega arith, store_then m m₁ m₂ at a s t x.1 y.1 x.0)
 
--- no room: nothing is said of the buffer
-pub put_other : {m : List ℕ} {at : ℕ} {s m₁ : List ℕ} {r : ℕ} → leb (at + length s) (length m) ≡ false → Put m at s m₁ r
-put_other {m} {at} {s} {m₁} {r} e = record { whole = λ h. never (sym e ∙ le-leb (at + length s) (length m) h) }
-
 pub put_is : {m : List ℕ} {at : ℕ} {s t m₁ : List ℕ} {a : ℕ} → s ≡ t → Put m at s m₁ a → Put m at t m₁ a
 put_is {m} {at} {s} {t} {m₁} {a} e p = subst (λ (x : List ℕ). Put m at x m₁ a) e p
-
--- is there room?
-pub room_none : (at n size : ℕ) → size < at → false ≡ leb (at + n) size
-room_none at n size h = sym (lt-leb (at + n) size (omega arith))
-
-pub room_rest : (at n size : ℕ) → at ≤ size → leb n (size - at) ≡ leb (at + n) size
-room_rest at n size h = go (dec_le (at + n) size)
-  where
-    go : Dec (at + n ≤ size) → leb n (size - at) ≡ leb (at + n) size
-    go (yes l) = le-leb n (size - at) (omega arith) ∙ sym (le-leb (at + n) size l)
-    go (no l) = lt-leb n (size - at) (omega arith) ∙ sym (lt-leb (at + n) size (omega arith))

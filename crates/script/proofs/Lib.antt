@@ -1,5 +1,4 @@
 pub mod Laws
-mod WordLaws
 mod NumberLaws
 mod HexLaws
 mod LineLaws

@@ -1,85 +1,42 @@
 -- The lines of an answer: the word of each kind, and row after row.
 -- Assumes nothing.
-use mathlib.Core.Path.{◌≡◌, refl, sym, ap}
+use mathlib.Core.Path.{◌≡◌, sym, ap}
 use mathlib.Core.Bool.{true, false}
 use mathlib.Core.List.{List, [], ◌++◌}
 use Prim.Native.Nat.{ℕ, suc, ◌+◌, ◌-◌, ◌<◌, ◌≤◌}
 use native.Mathlib.Omega.{arith}
 use lib.Dec.{eqb, leb}
 use lib.ListN.{length}
-use borrow.Author.Tests.{eq-eqb, ne_eqb, eqb-true, leb-true}
-use Rattle.ground.specs.Ascii.{ascii}
+use borrow.Author.Tests.{eqb-true, leb-true}
 use Rattle.ground.proofs.Laws.{and_true}
 use Rattle.row.specs.Layout.{row_limit, layout_length}
-use Rattle.row.specs.Kinds.{kind_number}
 use Rattle.row.specs.Memory.{entry_at, text_at, default_at}
 use Rattle.row.specs.declared.Entry.{Entry}
-use Rattle.row.specs.declared.kind.Kind.{Kind}
-use Rattle.row.specs.declared.kind.Kind.TheVariants.{Null, Boolean, Int, Long, Float, Double, Bytes, String, Reference, Array, Map, Union, Record, Enum, Fixed, Field, Symbol, Alias, FieldAlias}
-use Rattle.script.specs.Words.{words_of, word_at}
-use Rattle.script.specs.Lines.{kind_word, row_line, row_lines, has_rows, rows_text}
+use Rattle.script.specs.Lines.{row_line, row_lines, has_rows, rows_text}
 use Rattle.script.specs.Put.{Put}
-use Rattle.script.proofs.Laws.{put_none, put_then, put_is, room_none, room_rest}
+use Rattle.script.proofs.Laws.{put_none, put_then, put_is}
 use Rattle.script.proofs.HexLaws.{Rest}
-
-abbrev pub kind_words : List ℕ
-kind_words = ascii " null boolean int long float double bytes string        reference        array map union      record enum fixed      field symbol       alias field-alias"
-
-pub kind_word_lem : (k : Kind) → word_at kind_words (kind_number k) ≡ kind_word k
-unfolding word_at words_of
-kind_word_lem Null = refl
-kind_word_lem Boolean = refl
-kind_word_lem Int = refl
-kind_word_lem Long = refl
-kind_word_lem Float = refl
-kind_word_lem Double = refl
-kind_word_lem Bytes = refl
-kind_word_lem String = refl
-kind_word_lem Reference = refl
-kind_word_lem Array = refl
-kind_word_lem Map = refl
-kind_word_lem Union = refl
-kind_word_lem Record = refl
-kind_word_lem Enum = refl
-kind_word_lem Fixed = refl
-kind_word_lem Field = refl
-kind_word_lem Symbol = refl
-kind_word_lem Alias = refl
-kind_word_lem FieldAlias = refl
 
 pub line_is : {e e' : Entry} {a a' d d' : List ℕ} → e ≡ e' → a ≡ a' → d ≡ d' → row_line e a d ≡ row_line e' a' d'
 line_is p q r = λ i. row_line (p i) (q i) (r i)
 
-module _ (m₀ : List ℕ) (at₀ : ℕ) (s₀ mem : List ℕ) (i left : ℕ) (m : List ℕ) (at : ℕ) (inv : Rest m at (row_lines mem left i) m₀ at₀ s₀) where
-  pub rows_turn : (m₁ : List ℕ) (r : ℕ) → 0 < left → Put m at (row_line (entry_at mem i) (text_at mem i) (default_at mem i)) m₁ r → Rest m₁ r (row_lines mem (left - 1) (i + 1)) m₀ at₀ s₀
+module _ (m₀ : List ℕ) (at₀ : ℕ) (s₀ mem : List ℕ) (i end : ℕ) (m : List ℕ) (at : ℕ) (inv : Rest m at (row_lines mem (end - i) i) m₀ at₀ s₀) where
+  pub rows_turn : (m₁ : List ℕ) (r : ℕ) → i < end → Put m at (row_line (entry_at mem i) (text_at mem i) (default_at mem i)) m₁ r → Rest m₁ r (row_lines mem (end - (i + 1)) (i + 1)) m₀ at₀ s₀
   unfolding row_lines
   rows_turn m₁ r h p m₂ q d =
-      let e : left ≡ suc (left - 1) = omega arith in
-      let g : row_line (entry_at mem i) (text_at mem i) (default_at mem i) ++ row_lines mem (left - 1) (i + 1) ≡ row_lines mem left i = ap (λ (k : ℕ). row_lines mem k i) (sym e) in
+      let e : end - i ≡ suc (end - (i + 1)) = omega arith in
+      let g : row_line (entry_at mem i) (text_at mem i) (default_at mem i) ++ row_lines mem (end - (i + 1)) (i + 1) ≡ row_lines mem (end - i) i = ap (λ (k : ℕ). row_lines mem k i) (sym e) in
       inv m₂ q (put_is g (put_then p d))
 
-  pub rows_end : left ≤ 0 → Put m₀ at₀ s₀ m at
+  pub rows_end : end ≤ i → Put m₀ at₀ s₀ m at
   unfolding row_lines
   rows_end h =
-      let e : 0 ≡ left = omega arith in
+      let e : 0 ≡ end - i = omega arith in
       inv m at (put_is (ap (λ (k : ℕ). row_lines mem k i) e) put_none)
 
 -- ---- which rows are there
 
 module _ (m : List ℕ) (n i : ℕ) where
-  pub rows_other : (length m ≡ layout_length → ⊥) → false ≡ has_rows m n i
-  unfolding has_rows
-  rows_other e = rw (ne_eqb (length m) layout_length e)
-
-  module _ (e : length m ≡ layout_length) where
-    pub rows_past : row_limit < i → false ≡ has_rows m n i
-    unfolding has_rows
-    rows_past h = rw (eq-eqb (length m) layout_length e) (room_none i n row_limit h)
-
-    pub rows_fit : i ≤ row_limit → leb n (row_limit - i) ≡ has_rows m n i
-    unfolding has_rows
-    rows_fit h = rw (eq-eqb (length m) layout_length e) (room_rest i n row_limit h)
-
   pub rows_there : has_rows m n i ≡ true → (length m ≡ layout_length) × (i + n ≤ row_limit)
   unfolding has_rows
   rows_there e =

@@ -1,11 +1,10 @@
 -- Bytes in lowercase hexadecimal digits, two each; no bytes are written `-`.
 -- Assumes nothing.
-use Rattle.std.specs.Prelude.{ℕ, ◌+◌, ◌-◌, ◌*◌, ◌/◌, ◌%◌, Bool, true, cond, ◌&&◌, ◌||◌, List, [], ◌∷◌, eqb, ltb, length}
+use Rattle.std.specs.Prelude.{ℕ, ◌+◌, ◌-◌, ◌*◌, ◌/◌, ◌%◌, Bool, cond, ◌&&◌, ◌||◌, List, [], ◌∷◌, eqb, ltb, length, Option, Some, None}
+use Rattle.std.specs.List.{list_all}
 use Rattle.ground.specs.Ascii.{ascii}
 use Rattle.ground.specs.Bytes.{same}
 use Rattle.script.specs.Numbers.{inside, is_digit}
-use Rattle.script.specs.declared.hex.Unhexed.{Unhexed}
-use Rattle.script.specs.declared.hex.Unhexed.TheVariants.{Bytes, NotHex}
 
 abbrev pub is_letter : ℕ → Bool
 is_letter b = inside 97 102 b
@@ -17,9 +16,8 @@ is_hex b = is_digit b || is_letter b
 abbrev pub nibble : ℕ → ℕ
 nibble b = cond (is_digit b) (b - 48) (cond (is_letter b) (b - 87) 0)
 
-unfoldable pub all_hex : List ℕ → Bool
-all_hex [] = true
-all_hex (b ∷ bs) = is_hex b && all_hex bs
+abbrev pub all_hex : List ℕ → Bool
+all_hex w = list_all (λ b. is_hex b) w
 
 -- the bytes that pairs of digits stand for
 unfoldable pub bytes_of : List ℕ → List ℕ
@@ -32,8 +30,8 @@ unfoldable pub is_bytes : List ℕ → Bool
 is_bytes w = same w (ascii "-") || (ltb 0 (length w) && eqb (length w % 2) 0 && all_hex w)
 
 -- how many bytes a word stands for, if it stands for bytes
-unfoldable pub unhexed : List ℕ → Unhexed
-unhexed w = cond (is_bytes w) (Bytes (length (bytes_of w))) NotHex
+unfoldable pub unhexed : List ℕ → Option ℕ
+unhexed w = cond (is_bytes w) (Some (length (bytes_of w))) None
 
 -- its bytes, none where it stands for none
 unfoldable pub word_bytes : List ℕ → List ℕ

@@ -1,8 +1,8 @@
--- Lines in a buffer.
+-- Parts of the input in a buffer.
 -- Assumes nothing.
 use Rattle.std.specs.Prelude.{ℕ, ◌≤◌}
-use Rattle.script.specs.declared.input.Line.{Line}
+use Rattle.script.specs.declared.input.Part.{Part}
 
--- the line, and what is left, lie within the first n bytes
-abbrev pub Within : ℕ → Line → Type 0
-Within n l = (l.«from» ≤ l.to) × (l.to ≤ n) × (l.next ≤ l.end) × (l.end ≤ n)
+-- the part, and what is left, lie within the first n bytes
+abbrev pub Within : ℕ → Part → Type 0
+Within n p = (p.«from» ≤ p.to) × (p.to ≤ n) × (p.next ≤ p.end) × (p.end ≤ n)

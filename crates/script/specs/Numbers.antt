@@ -1,10 +1,6 @@
 -- Decimal numbers, read and written.
 -- Assumes nothing.
-use Rattle.std.specs.Prelude.{ℕ, zero, suc, ◌+◌, ◌-◌, ◌*◌, ◌/◌, ◌%◌, Bool, cond, ◌&&◌, List, [], ◌∷◌, ◌++◌, leb, ltb, ℤ, pos, negsuc}
-use Rattle.script.specs.declared.numbers.Number.{Number}
-use Rattle.script.specs.declared.numbers.Number.TheVariants.{Is, NoNumber}
-use Rattle.script.specs.declared.numbers.Octet.{Octet}
-use Rattle.script.specs.declared.numbers.Octet.TheVariants.{Byte, NoByte}
+use Rattle.std.specs.Prelude.{ℕ, zero, suc, ◌+◌, ◌-◌, ◌*◌, ◌/◌, ◌%◌, Bool, cond, ◌&&◌, List, [], ◌∷◌, ◌++◌, leb, ltb, ℤ, pos, negsuc, Option, Some, None}
 
 -- is b from lo to hi?
 abbrev pub inside : ℕ → ℕ → ℕ → Bool
@@ -14,23 +10,23 @@ abbrev pub is_digit : ℕ → Bool
 is_digit b = inside 48 57 b
 
 -- the number, where it fits 64 bits
-unfoldable pub fitting : ℕ → Number
-fitting v = cond (ltb v 18446744073709551616) (Is v) NoNumber
+unfoldable pub fitting : ℕ → Option ℕ
+fitting v = cond (ltb v 18446744073709551616) (Some v) None
 
 -- v so far, and the digits that are left
-unfoldable pub number_from : ℕ → List ℕ → Number
+unfoldable pub number_from : ℕ → List ℕ → Option ℕ
 number_from v [] = fitting v
-number_from v (b ∷ bs) = let more = number_from (v * 10 + (b - 48)) bs in cond (is_digit b) more NoNumber
+number_from v (b ∷ bs) = let more = number_from (v * 10 + (b - 48)) bs in cond (is_digit b) more None
 
 -- one digit or more, and nothing else
-unfoldable pub number_of : List ℕ → Number
-number_of [] = NoNumber
+unfoldable pub number_of : List ℕ → Option ℕ
+number_of [] = None
 number_of (b ∷ bs) = number_from 0 (b ∷ bs)
 
 -- a number that fits a byte
-unfoldable pub octet_of : Number → Octet
-octet_of NoNumber = NoByte
-octet_of (Is v) = cond (ltb v 256) (Byte v) NoByte
+unfoldable pub octet_of : Option ℕ → Option ℕ
+octet_of None = None
+octet_of (Some v) = cond (ltb v 256) (Some v) None
 
 -- the digits of n, where at most k are needed; no 0 in front
 unfoldable pub digits_of : ℕ → ℕ → List ℕ

@@ -1,108 +1,78 @@
-// Standard input line by line. A line is handed out before more is read than what came with it.
-ghost use Rattle.std.specs.Prelude.{◌≡◌, ◌<◌, ◌≤◌, length, IfOk};
+// Standard input in parts that marks separate, as LF does lines. A part is handed out before more is read than what came with it.
+ghost use Rattle.std.specs.Prelude.{◌≡◌, ◌<◌, ◌≤◌, length, IfOk, IfSome};
 ghost use Rattle.script.specs.Input.{Within};
 
 use std::io;
 use std::io::{Read, Stdin};
 
-// A line without its LF: the buffer's bytes from `from` to `to`. Those from `next` to `end` were read and are left.
-// A line that does not fit the buffer with its LF is cut, and its rest is skipped. At the input's end no line is there.
+// A part without its mark: the buffer's bytes from `from` to `to`. Those from `next` to `end` were read and are left.
+// Behind the last part the input ends. A part that does not fit the buffer with its mark is cut, and its rest is skipped.
 #[derive(Clone, Copy)]
-pub struct Line {
-    pub there: bool,
+pub struct Part {
     pub from: usize,
     pub to: usize,
+    pub last: bool,
     pub cut: bool,
     pub next: usize,
     pub end: usize,
 }
 
-impl Line {
-    // Before the first line.
-    pub fn none() -> Self
-        ensures { Within 0 result }
-    {
-        last_line(0, false)
-    }
-}
-
-// The buffer's first n bytes, if there are any, and nothing is left.
-fn last_line(n: usize, cut: bool) -> Line
+// The buffer's first n bytes, and nothing is left.
+fn front(n: usize, last: bool, cut: bool) -> Part
     ensures { Within n result }
 {
-    Line {
-        there: 0 < n,
+    Part {
         from: 0,
         to: n,
-        cut: cut,
+        last,
+        cut,
         next: 0,
         end: 0,
     }
 }
 
-// Its LF stands at `to`, and the bytes behind it are left.
-fn whole_line(from: usize, to: usize, end: usize) -> Line
+// Its mark stands at `to`, and the bytes behind it are left.
+fn marked(from: usize, to: usize, end: usize) -> Part
     requires { (from ≤ to) × (to < end) }
     ensures { Within end result }
 {
-    Line {
-        there: true,
-        from: from,
-        to: to,
+    Part {
+        from,
+        to,
+        last: false,
         cut: false,
         next: to + 1,
-        end: end,
+        end,
     }
 }
 
-// Where the first LF from `from` on stands; `end` where there is none.
-fn line_end(buf: &[u8], from: usize, end: usize) -> usize
+// Where the first mark stands of the bytes from `from` to `end`.
+fn mark_at(buf: &[u8], mark: u8, from: usize, end: usize) -> Option<usize>
     requires { (from ≤ end) × (end ≤ length buf.now) }
-    ensures { (from ≤ result) × (result ≤ end) }
+    ensures { IfSome result (λ at. (from ≤ at) × (at < end)) }
 {
-    let mut i = from;
-    while i < end {
-        if buf[i] == b'\n' {
-            return i;
-        }
-        i += 1;
-    }
-    end
-}
-
-// Moves the bytes from `from` to `end` to the buffer's start, and answers how many they are.
-fn move_down(buf: &mut [u8], from: usize, end: usize) -> usize
-    requires { (from ≤ end) × (end ≤ length buf.old) }
-    ensures { result ≤ length buf.new }
-{
-    let mut i = from;
-    let mut n = 0;
-    while i < end {
-        buf[n] = buf[i];
-        i += 1;
-        n += 1;
-    }
-    n
+    let at = buf[from..end].iter().position(|b| *b == mark)?;
+    Some(from + at)
 }
 
 // Reads once, behind the first n bytes, and answers how many bytes there are then: n at the input's end.
-fn read_more(mut stdin: Stdin, buf: &mut [u8], n: usize) -> io::Result<usize>
+fn read_more<R: Read>(from: &mut R, buf: &mut [u8], n: usize) -> io::Result<usize>
     requires { n ≤ length buf.old }
     ensures { IfOk result (λ more. (n ≤ more) × (more ≤ length buf.new)) }
 {
-    let room = &mut buf[n..];
-    let got = stdin.read(room)?;
+    let got = from.read(&mut buf[n..])?;
     Ok(n + got)
 }
 
 // Reads until the buffer is full or the input ends, and answers how many bytes there are. After a read that failed the buffer holds anything.
-pub fn read_full(stdin: Stdin, buf: &mut [u8]) -> io::Result<usize>
+pub fn read_full<R: Read>(from: &mut R, buf: &mut [u8]) -> io::Result<usize>
     ensures read { IfOk result (λ n. n ≤ length buf.new) }
     ensures kept { length buf.new ≡ length buf.old }
 {
     let mut to = 0;
+    // Each turn goes on by what a read gave, so no range fits.
     while to < buf.len() {
-        let more = read_more(stdin, buf, to)?;
+        let more = read_more(from, buf, to)?;
         if more <= to {
             return Ok(to);
         }
@@ -111,69 +81,77 @@ pub fn read_full(stdin: Stdin, buf: &mut [u8]) -> io::Result<usize>
     Ok(to)
 }
 
-// Reads until the line ends of which the buffer's first n bytes are there.
-fn read_line(stdin: Stdin, buf: &mut [u8], n: usize) -> io::Result<Line>
+// Reads until the part ends of which the buffer's first n bytes are there.
+fn read_part(mut stdin: Stdin, buf: &mut [u8], mark: u8, n: usize) -> io::Result<Part>
     requires { n ≤ length buf.old }
     ensures { IfOk result (Within (length buf.new)) }
 {
     let mut to = n;
+    // Each turn goes on by what a read gave, so no range fits.
     while to < buf.len() {
-        let more = read_more(stdin, buf, to)?;
+        let more = read_more(&mut stdin, buf, to)?;
         if more <= to {
-            return Ok(last_line(to, false));
+            return Ok(front(to, true, false));
         }
-        let end = line_end(buf, to, more);
-        if end < more {
-            return Ok(whole_line(0, end, more));
+        if let Some(at) = mark_at(buf, mark, to, more) {
+            return Ok(marked(0, at, more));
         }
         to = more;
     }
-    Ok(last_line(to, 0 < to))
+    Ok(front(to, to == 0, 0 < to))
 }
 
-// Reads until the line that was cut ends.
-fn skip_line(stdin: Stdin, buf: &mut [u8]) -> io::Result<Line>
+// Reads until the part that was cut ends.
+fn skip_part(stdin: Stdin, buf: &mut [u8], mark: u8) -> io::Result<Part>
     ensures { IfOk result (Within (length buf.new)) }
 {
-    let mut turns = u64::MAX;
-    while 0 < turns {
-        let rest = read_line(stdin, buf, 0)?;
+    for _ in 0..u64::MAX {
+        let rest = read_part(stdin, buf, mark, 0)?;
         if !rest.cut {
             return Ok(rest);
         }
-        turns -= 1;
     }
-    Ok(Line::none())
+    Ok(front(0, true, false))
 }
 
-// The line, or where it was cut its rest. What no line of this buffer has left counts as nothing.
-fn settled(stdin: Stdin, buf: &mut [u8], line: Line) -> io::Result<Line>
-    ensures { IfOk result (λ rest. (rest.next ≤ rest.end) × (rest.end ≤ length buf.new)) }
+// From where to where the bytes stand that a part has left, or where it was cut its rest. What no part of this buffer has left counts
+// as nothing.
+fn left(stdin: Stdin, buf: &mut [u8], mark: u8, before: Option<Part>) -> io::Result<(usize, usize)>
+    ensures { IfOk result (λ rest. (rest.0 ≤ rest.1) × (rest.1 ≤ length buf.new)) }
 {
-    if line.cut {
-        return skip_line(stdin, buf);
+    let rest = match before {
+        Some(part) if part.cut => skip_part(stdin, buf, mark)?,
+        Some(part) => part,
+        None => return Ok((0, 0)),
+    };
+    if rest.next <= rest.end && rest.end <= buf.len() {
+        return Ok((rest.next, rest.end));
     }
-    if line.end < line.next {
-        return Ok(Line::none());
-    }
-    if buf.len() < line.end {
-        return Ok(Line::none());
-    }
-    Ok(line)
+    Ok((0, 0))
 }
 
-// The line after a line. After a read that failed the buffer holds anything, and no line is left in it.
-pub fn next_line(stdin: Stdin, buf: &mut [u8], before: Line) -> io::Result<Line>
+// The part after a part; the first where there is none before it. After a read that failed the buffer holds anything, and nothing is left
+// in it.
+pub fn next_part(stdin: Stdin, buf: &mut [u8], mark: u8, before: Option<Part>) -> io::Result<Part>
     ensures read { IfOk result (Within (length buf.new)) }
     ensures kept { length buf.new ≡ length buf.old }
 {
-    let line = settled(stdin, buf, before)?;
-    let from = line.next;
-    let end = line.end;
-    let to = line_end(buf, from, end);
-    if to < end {
-        return Ok(whole_line(from, to, end));
+    let (from, end) = left(stdin, buf, mark, before)?;
+    if let Some(at) = mark_at(buf, mark, from, end) {
+        return Ok(marked(from, at, end));
     }
-    let n = move_down(buf, from, end);
-    read_line(stdin, buf, n)
+    buf.copy_within(from..end, 0);
+    read_part(stdin, buf, mark, end - from)
+}
+
+// The line after a line; none at the input's end.
+pub fn next_line(stdin: Stdin, buf: &mut [u8], before: Option<Part>) -> io::Result<Option<Part>>
+    ensures read { IfOk result (λ line. IfSome line (Within (length buf.new))) }
+    ensures kept { length buf.new ≡ length buf.old }
+{
+    let line = next_part(stdin, buf, b'\n', before)?;
+    if line.last && line.to == 0 {
+        return Ok(None);
+    }
+    Ok(Some(line))
 }

@@ -1,72 +1,28 @@
 // Decimal numbers: digits only, no sign.
-ghost use Rattle.std.specs.Prelude.{◌≡◌, ◌<◌};
-ghost use Rattle.script.specs.Numbers.{inside, is_digit, number_of, octet_of};
+ghost use Rattle.std.specs.Prelude.{◌≡◌};
+ghost use Rattle.script.specs.Numbers.{number_of, octet_of};
 
 // The number that a word is, if it is one and fits.
-#[derive(Clone, Copy)]
-pub enum Number {
-    Is(usize),
-    NoNumber,
-}
-
-#[derive(Clone, Copy)]
-pub enum Octet {
-    Byte(u8),
-    NoByte,
-}
-
-// Is b from lo to hi?
-pub(crate) fn inside(lo: u8, hi: u8, b: u8) -> bool
-    ensures { result ≡ inside lo hi b }
-{
-    if lo <= b { b <= hi } else { false }
-}
-
-pub(crate) fn is_digit(b: u8) -> bool
-    ensures { result ≡ is_digit b }
-{
-    inside(b'0', b'9', b)
-}
-
-fn wide(b: u8) -> usize
-    ensures { (result ≡ b) × (result < 256) }
-{
-    b as usize
-}
-
-pub fn decimal(word: &[u8]) -> Number
+pub fn decimal(word: &[u8]) -> Option<usize>
     ensures { result ≡ number_of word.now }
 {
-    if word.len() == 0 {
-        return Number::NoNumber;
+    if word.is_empty() {
+        return None;
     }
     let mut v: usize = 0;
-    let mut i = 0;
-    while i < word.len() {
-        if !is_digit(word[i]) {
-            return Number::NoNumber;
+    for b in word {
+        if !b.is_ascii_digit() {
+            return None;
         }
-        let d = wide(word[i]) - 48;
-        if v > (18446744073709551615 - d) / 10 {
-            return Number::NoNumber;
-        }
-        v = v * 10 + d;
-        i += 1;
+        v = v.checked_mul(10)?.checked_add(usize::from(*b - b'0'))?;
     }
-    Number::Is(v)
+    Some(v)
 }
 
 // A number that fits a byte.
-pub fn decimal_byte(word: &[u8]) -> Octet
+#[tactic(auto, unfolding(crate::specs::Numbers::octet_of))]
+pub fn decimal_byte(word: &[u8]) -> Option<u8>
     ensures { result ≡ octet_of (number_of word.now) }
 {
-    match decimal(word) {
-        Number::NoNumber => Octet::NoByte,
-        Number::Is(v) => {
-            if v > 255 {
-                return Octet::NoByte;
-            }
-            Octet::Byte(v as u8)
-        }
-    }
+    u8::try_from(decimal(word)?).ok()
 }

@@ -6,7 +6,7 @@ ghost use Rattle.script.specs.Hex.{hex_of};
 ghost use Rattle.script.specs.Hex.{glyph as Hex·glyph};
 ghost use Rattle.script.specs.Put.{Put};
 
-use ground::{copy, magnitude};
+use ground::copy;
 use std::io::{Error, Stdout};
 
 // Standard output. After a write that failed nothing more is written.
@@ -18,17 +18,13 @@ pub struct Output {
 
 impl Output {
     pub fn new(to: Stdout) -> Self {
-        Output {
-            to: to,
-            failure: None,
-        }
+        Output { to, failure: None }
     }
 
     fn write(&mut self, bytes: &[u8]) {
-        if self.failure.is_some() {
-            return;
+        if self.failure.is_none() {
+            self.failure = self.to.write_all(bytes).err();
         }
-        self.failure = self.to.write_all(bytes).err();
     }
 
     // Writes the first `at` bytes of a buffer.
@@ -52,10 +48,7 @@ pub fn flush(stdout: &mut Output, out: &[u8], at: usize) -> std::io::Result<()> 
 fn has_room(out: &[u8], at: usize, n: usize) -> bool
     ensures { result ≡ leb (at + n) (length out.now) }
 {
-    if out.len() < at {
-        return false;
-    }
-    n <= out.len() - at
+    at <= out.len() && n <= out.len() - at
 }
 
 pub fn put(stdout: &mut Output, out: &mut [u8], at: usize, s: &[u8]) -> usize
@@ -87,30 +80,28 @@ pub fn put_signed(stdout: &mut Output, out: &mut [u8], at: usize, n: i64) -> usi
 {
     if n < 0 {
         let next = put(stdout, out, at, b"-");
-        return put_decimal(stdout, out, next, magnitude(n));
+        return put_decimal(stdout, out, next, n.unsigned_abs());
     }
-    put_decimal(stdout, out, at, magnitude(n))
+    put_decimal(stdout, out, at, n.unsigned_abs())
 }
 
 fn glyph(d: u8) -> u8
     requires { d < 16 }
     ensures { result ≡ Hex·glyph d }
 {
-    if d < 10 { 48 + d } else { 87 + d }
+    if d < 10 { b'0' + d } else { b'a' + d - 10 }
 }
 
 pub fn put_hex(stdout: &mut Output, out: &mut [u8], at: usize, s: &[u8]) -> usize
     ensures { Put out.old at (hex_of s.now) out.new result }
 {
-    if s.len() == 0 {
+    if s.is_empty() {
         return put(stdout, out, at, b"-");
     }
     let mut end = at;
-    let mut i = 0;
-    while i < s.len() {
-        let pair = [glyph(s[i] / 16), glyph(s[i] % 16)];
+    for b in s {
+        let pair = [glyph(*b / 16), glyph(*b % 16)];
         end = put(stdout, out, end, &pair);
-        i += 1;
     }
     end
 }

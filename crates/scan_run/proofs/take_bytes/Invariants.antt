@@ -1,15 +1,8 @@
--- `scan_run::take_bytes` ends, and stays within the room. Assumes nothing.
-use mathlib.Core.Path.{◌≡◌, refl}
-use Prim.Native.Nat.{◌-◌, ◌≤◌}
-use borrow.Author.Rules.{rules}
+-- `scan_run::take_bytes` meets its contract: the text so far fits its buffer.
+-- Assumes nothing.
+use Prim.Native.Nat.{◌≤◌}
 use lib.ListN.{length}
-use Rattle.scan_run.proofs.take_bytes.Reads as reads
-use Rattle.scan_run.proofs.take_bytes.Lts as lts
-use Rattle.scan_run.proofs.take_byte.Reads as take-byte-reads
 use Rattle.scan_run.proofs.take_bytes.Given as goal
 
-abbrev pub invariant-loop-at : goal.invariant-loop-at
-invariant-loop-at l = (length l.text ≡ length l.initial.text) × (l.line.n ≤ length l.text)
-
-abbrev pub decreases-loop-at : goal.decreases-loop-at
-decreases-loop-at l = length l.bytes - l.at
+abbrev pub invariant-loop-b : goal.invariant-loop-b
+invariant-loop-b l = l.line.n ≤ length l.text

@@ -1,9 +1,7 @@
 -- `replays::calls::rows` is safe.
 -- Assumes nothing.
 use mathlib.Core.Path.{sym, ◌∙◌}
-use borrow.Author.Tests.{not-false}
 use Rattle.replays.proofs.PlaceLaws.{formed_long, place_asks, before_asks}
-use borrow.Author.Rules.{rules}
 use Rattle.replays.proofs.calls.rows.Goals as goal
 
 pub declarations-requires : goal.declarations-requires

@@ -1,13 +1,9 @@
--- `replays::turns::replay` is safe, and ends by its count of turns: the buffers keep their lengths.
+-- `replays::turns::replay` meets its contract: the input's buffer keeps its length, and no more of the memory is lent than there is.
 -- Assumes nothing.
-use mathlib.Core.Path.{◌≡◌, refl}
+use mathlib.Core.Path.{◌≡◌}
 use Prim.Native.Nat.{◌≤◌}
 use lib.ListN.{length}
-use borrow.Author.Rules.{rules}
 use Rattle.replays.proofs.turns.replay.Given as goal
 
-abbrev pub invariant-loop-turns : goal.invariant-loop-turns
-invariant-loop-turns l = (length l.input ≡ length l.initial.input) × (length l.text ≡ length l.initial.text) × (length l.memory ≡ length l.initial.memory) × (length l.buffer ≡ length l.initial.buffer) × (length l.out ≡ length l.initial.out) × (l.lent ≤ length l.memory)
-
-abbrev pub decreases-loop-turns : goal.decreases-loop-turns
-decreases-loop-turns l = l.turns
+abbrev pub invariant-loop : goal.invariant-loop
+invariant-loop l = (length l.input ≡ length l.initial.input) × (l.lent ≤ length l.memory)

@@ -1,8 +1,6 @@
 -- `script::answers::put_rows` meets its contract.
 -- Assumes nothing.
 use mathlib.Core.Path.{sym, ◌∙◌}
-use borrow.Author.Tests.{not-true, not-false}
-use borrow.Author.Rules.{rules}
 use Rattle.script.proofs.LineLaws.{rows_there, rows_none, rows_all}
 use Rattle.script.proofs.Laws.{put_none, put_is}
 use Rattle.script.proofs.answers.put_rows.Goals as goal

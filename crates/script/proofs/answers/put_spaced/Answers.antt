@@ -1,6 +1,5 @@
 -- `script::answers::put_spaced` meets its contract.
 -- Assumes nothing.
-use borrow.Author.Rules.{rules}
 use Rattle.script.specs.Lines.{spaced}
 use Rattle.script.proofs.Laws.{put_then}
 use Rattle.script.proofs.answers.put_spaced.Goals as goal

@@ -2,7 +2,6 @@
 -- Assumes nothing.
 use Rattle.script.specs.Lines.{spaced_hex}
 use Rattle.script.proofs.Laws.{put_then}
-use borrow.Author.Rules.{rules}
 use Rattle.script.proofs.answers.put_spaced_hex.Goals as goal
 
 pub returns : goal.returns

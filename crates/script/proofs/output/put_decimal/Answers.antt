@@ -1,6 +1,5 @@
 -- `script::output::put_decimal` meets its contract.
 -- Assumes nothing.
-use borrow.Author.Rules.{rules}
 use Rattle.script.proofs.NumberLaws.{decimal_digits}
 use Rattle.script.proofs.Laws.{put_is}
 use Rattle.script.proofs.output.put_decimal.Goals as goal

@@ -1,30 +1,12 @@
 -- `script::words::word_count` meets its contract.
 -- Assumes nothing.
-use mathlib.Core.Path.{◌≡◌, refl}
-use Prim.Native.Nat.{◌+◌, ◌-◌, ◌≤◌}
-use native.Mathlib.Omega.{arith}
-use lib.ListN.{length, drop}
-use borrow.Author.Rules.{rules}
+use lib.Dec.{eqb}
+use Rattle.std.proofs.Common.{rules, tests}
+use Rattle.std.proofs.lemmas.Iterator.Consumers.{count_from_yields_List}
+use Rattle.std.proofs.lemmas.Iterator.Splits.{YieldsList-from_slice_split}
 use Rattle.script.specs.Words.{words_of}
-use Rattle.script.proofs.WordLaws.{count_space, count_other, count_end}
 use Rattle.script.proofs.words.word_count.Goals as goal
-use Rattle.script.proofs.words.word_count.Goals.{then-line-i-eq32, else-line-i-eq32}
-
-pub loop-i-init : goal.loop-i-init
-loop-i-init c = (search rules, search rules, refl)
-
-pub loop-i-preserved : goal.loop-i-preserved
-loop-i-preserved c = (
-  search rules,
-  elim c.if-line-i-eq32.branch [
-    | then-line-i-eq32 w ↦ omega (arith, w.n-is)
-    | else-line-i-eq32 w ↦ omega (arith, w.n-is)
-  ],
-  elim c.if-line-i-eq32.branch [
-    | then-line-i-eq32 w ↦ count_space _ _ _ _ c.loop-i.invariant.2 c.loop-i-test.true w.if-line-i-eq32.true _ w.n-is
-    | else-line-i-eq32 w ↦ count_other _ _ _ _ c.loop-i.invariant.2 c.loop-i-test.true w.if-line-i-eq32.false _ w.n-is
-  ],
-)
 
 pub returns : goal.returns
-returns c = count_end _ _ _ _ c.loop-i.invariant.2 c.loop-i-test.false
+unfolding words_of
+returns c = count_from_yields_List c.split.result _ c.count.ensures.ran (YieldsList-from_slice_split _ (λ b. eqb b 32) c.args.line.now c.split.ensures.rest c.split.ensures.done c.split.ensures.closure (λ x b q k. search (rules, tests)))
