@@ -1,5 +1,5 @@
 -- An answer is an enum. Here are document 01's number and values for each of its cases; promises and theorems speak of answers by them.
--- Naming of `set`, Written and Print of `canonical` have theirs beside them, made of the same parts. That they tell the answer: proofs/Laws, `numbers_one`.
+-- A fingerprint has its numbers in `canonical`, offsets theirs in `summary`, made of the same parts. That they tell the answer: proofs/Laws, `numbers_one`.
 -- Assumes nothing.
 use Rattle.std.specs.Prelude.{ℕ, Result, Ok, Err}
 use Rattle.answer.specs.Numbers.{number_of}
@@ -25,6 +25,11 @@ of_refusal r = refused (number_of r.why) r.place r.at
 -- a result, or a refusal
 abbrev pub Answer : Type 0 → Type 0
 Answer A = Result A Refusal
+
+-- an answer that is one number, as a length or a place
+abbrev pub numbers_of_value : Answer ℕ → Numbers
+numbers_of_value (Ok n) = accepted n 0 0
+numbers_of_value (Err r) = of_refusal r
 
 -- what open and put answer
 abbrev pub numbers_of : Answer Counts → Numbers

@@ -14,11 +14,7 @@ use Rattle.answer.specs.Numbers.{number_of}
 use Rattle.answer.specs.Answers.{of_refusal, numbers_of, Answer}
 use Rattle.answer.proofs.Laws.{never_zero}
 use Rattle.canonical.specs.Calls.{numbers_of_written}
-use Rattle.canonical.specs.declared.answers.Written.{Written}
-use Rattle.canonical.specs.declared.answers.Written.TheVariants as written
 use Rattle.summary.specs.Calls.{numbers_of_offsets}
-use Rattle.summary.specs.declared.answers.Offsets.{Offsets}
-use Rattle.summary.specs.declared.answers.Offsets.TheVariants as given
 use Rattle.bench_calls.specs.Places.{rows_read, rows_in, length_in, offsets_in}
 
 -- the rows of an answer, 0 where it is a refusal
@@ -49,8 +45,8 @@ no_offsets r = rw (ne_eqb (number_of r.why) 0 (never_zero r.why))
 pub rows_none : {a : Answer Counts} {r : Refusal} → a ≡ Err r → 0 ≡ rows_in (numbers_of a)
 rows_none {r = r} e = sym (ap (λ (x : Answer Counts). rows_in (numbers_of x)) e ∙ no_rows r)
 
-pub length_none : {w : Written} {r : Refusal} → w ≡ written.Refused r → 0 ≡ length_in (numbers_of_written w)
-length_none {r = r} e = sym (ap (λ (x : Written). length_in (numbers_of_written x)) e ∙ no_length r)
+pub length_none : {w : Answer ℕ} {r : Refusal} → w ≡ Err r → 0 ≡ length_in (numbers_of_written w)
+length_none {r = r} e = sym (ap (λ (x : Answer ℕ). length_in (numbers_of_written x)) e ∙ no_length r)
 
-pub offsets_none : {o : Offsets} {r : Refusal} → o ≡ given.Refused r → 0 ≡ offsets_in (numbers_of_offsets o)
-offsets_none {r = r} e = sym (ap (λ (x : Offsets). offsets_in (numbers_of_offsets x)) e ∙ no_offsets r)
+pub offsets_none : {o : Answer (ℕ × ℕ)} {r : Refusal} → o ≡ Err r → 0 ≡ offsets_in (numbers_of_offsets o)
+offsets_none {r = r} e = sym (ap (λ (x : Answer (ℕ × ℕ)). offsets_in (numbers_of_offsets x)) e ∙ no_offsets r)

@@ -14,10 +14,7 @@ ghost use Rattle.set.specs.Calls.{answer_of, memory_of, put};
 ghost use Rattle.summary.specs.Calls.{numbers_of_offsets, reading_of, list_after};
 ghost use Rattle.summary.specs.Summary.{summary_of, datum_of};
 
-use answer::Answer;
-use canonical::Written;
-use schema::Walked;
-use summary::Offsets;
+use answer::{Answer, Counts};
 
 #[unsafe(no_mangle)]
 pub extern "C" fn bench_fingerprint(bytes: &[u8]) -> i64
@@ -62,7 +59,7 @@ pub extern "C" fn bench_well_formed(memory: &[u8]) -> bool
     formed::well_formed(memory)
 }
 
-fn rows_in(a: Answer) -> usize
+fn rows_in(a: Answer<Counts>) -> usize
     ensures { result ≡ rows_in (numbers_of a) }
 {
     match a {
@@ -80,12 +77,12 @@ pub extern "C" fn bench_put(memory: &mut [u8], place: usize, text: &[u8]) -> usi
     rows_in(set::put(memory, place, text))
 }
 
-fn length_in(w: Written) -> usize
+fn length_in(w: Answer<usize>) -> usize
     ensures { result ≡ length_in (numbers_of_written w) }
 {
     match w {
-        Written::Length(n) => n,
-        Written::Refused(_) => 0,
+        Ok(n) => n,
+        Err(_) => 0,
     }
 }
 
@@ -98,12 +95,12 @@ pub extern "C" fn bench_canonical(memory: &[u8], place: usize, buffer: &mut [u8]
     length_in(canonical::canonical(memory, place, buffer, 0))
 }
 
-fn offsets_in(o: Offsets) -> usize
+fn offsets_in(o: Answer<(usize, usize)>) -> usize
     ensures { result ≡ offsets_in (numbers_of_offsets o) }
 {
     match o {
-        Offsets::Given(_, n) => n,
-        Offsets::Refused(_) => 0,
+        Ok((_, n)) => n,
+        Err(_) => 0,
     }
 }
 

@@ -5,7 +5,7 @@ use Rattle.answer.specs.declared.refusal.Why.{Why}
 use Rattle.answer.specs.declared.refusal.Why.TheVariants.{NotWellFormed, NoSuchPlace, NoRoom}
 use Rattle.answer.specs.declared.refusal.Refusal.{Refusal}
 use Rattle.answer.specs.declared.numbers.Numbers.{Numbers}
-use Rattle.answer.specs.Answers.{accepted, of_refusal}
+use Rattle.answer.specs.Answers.{accepted, of_refusal, numbers_of_value, Answer}
 use Rattle.ground.specs.Bytes.{store}
 use Rattle.rabin.specs.Rabin.{rabin_of}
 use Rattle.row.specs.Rows.{Row}
@@ -45,9 +45,8 @@ written_at m place offset room = in_room (text_at m place) place offset room
 -- ---- what is answered, in 01's numbers: 0 and the text's length, or the refusal's number, place and position
 
 -- the contracts read an answer by them, for each of its cases; they tell the answer (laws `written_one`, `print_one`)
-abbrev pub numbers_of_written : Result ℕ Refusal → Numbers
-numbers_of_written (Ok n) = accepted n 0 0
-numbers_of_written (Err r) = of_refusal r
+abbrev pub numbers_of_written : Answer ℕ → Numbers
+numbers_of_written = numbers_of_value
 
 unfoldable pub length_of : Found → Numbers
 length_of (found s) = accepted (length s) 0 0

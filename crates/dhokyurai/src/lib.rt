@@ -78,7 +78,7 @@ fn named(memory: &[u8], place: usize, row: usize, name: &[u8]) -> Numbers
     ensures { result ≡ naming_of memory.now place row }
 {
     if name.len() == 0 {
-        return numbers::of_naming(set::naming_of(memory, place, row));
+        return numbers::of_value(set::naming_of(memory, place, row));
     }
     Numbers::accepted(name.len())
 }
@@ -121,7 +121,7 @@ pub extern "C" fn dhokyurai_canonical(
         × (a.new ≡ (length_of (written_at memory.now place offset (length buffer.old))).first)
         × (b.new ≡ (length_of (written_at memory.now place offset (length buffer.old))).second) }
 {
-    let n = numbers::of_written(canonical::canonical(memory, place, buffer, offset));
+    let n = numbers::of_value(canonical::canonical(memory, place, buffer, offset));
     *a = n.first;
     *b = n.second;
     n.number
@@ -139,7 +139,7 @@ pub extern "C" fn dhokyurai_canonical_length(
         × (a.new ≡ (length_of (text_at memory.now place)).first)
         × (b.new ≡ (length_of (text_at memory.now place)).second) }
 {
-    let n = numbers::of_written(canonical::canonical_length(memory, place));
+    let n = numbers::of_value(canonical::canonical_length(memory, place));
     *a = n.first;
     *b = n.second;
     n.number
@@ -199,7 +199,7 @@ pub extern "C" fn dhokyurai_find(
         × (a.new ≡ (finding_of (place_of memory.now (bytes_of fingerprint))).first)
         × (b.new ≡ (finding_of (place_of memory.now (bytes_of fingerprint))).second) }
 {
-    let n = numbers::of_place(summary::find(memory, fingerprint));
+    let n = numbers::of_value(summary::find(memory, fingerprint));
     *a = n.first;
     *b = n.second;
     n.number

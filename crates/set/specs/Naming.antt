@@ -2,7 +2,7 @@
 -- Assumes nothing.
 use Rattle.std.specs.Prelude.{ℕ, zero, suc, ◌+◌, Bool, cond, ◌||◌, List, [], ◌∷◌, length, Ok, Err}
 use Rattle.answer.specs.declared.numbers.Numbers.{Numbers}
-use Rattle.answer.specs.Answers.{accepted, refused, of_refusal, Answer}
+use Rattle.answer.specs.Answers.{accepted, refused, of_refusal, Answer, numbers_of_value}
 use Rattle.name.specs.Name.{is_empty}
 use Rattle.row.specs.Layout.{strings_start}
 use Rattle.row.specs.Rows.{Row, strings_of, texts}
@@ -53,8 +53,7 @@ full_name_start m place i = cond (well_formed m) (start_in strings_start (decode
 
 -- 01's numbers for each case: 0 and the full name's length, or the refusal's number, place and position
 abbrev pub numbers_of_naming : Answer ℕ → Numbers
-numbers_of_naming (Ok n) = accepted n 0 0
-numbers_of_naming (Err r) = of_refusal r
+numbers_of_naming = numbers_of_value
 
 -- 20, then 21 where there is no such place, no such row there, or it has no full name
 unfoldable pub naming_of : List ℕ → ℕ → ℕ → Numbers

@@ -3,7 +3,7 @@
 use Rattle.std.specs.Prelude.{ℕ, List, Result, Ok, Err, length}
 use Rattle.answer.specs.declared.numbers.Numbers.{Numbers}
 use Rattle.answer.specs.declared.refusal.Refusal.{Refusal}
-use Rattle.answer.specs.Answers.{accepted, of_refusal}
+use Rattle.answer.specs.Answers.{accepted, of_refusal, numbers_of_value, Answer}
 use Rattle.ground.specs.Bytes.{store}
 use Rattle.summary.specs.Summary.{Reading, offsets, refused, Finding, found, nowhere}
 
@@ -29,9 +29,8 @@ unfoldable pub list_after : Reading → List ℕ → List ℕ
 list_after (offsets p list) out = store out 0 list
 list_after (refused r) out = out
 
-abbrev pub numbers_of_place : Place → Numbers
-numbers_of_place (Ok p) = accepted p 0 0
-numbers_of_place (Err r) = of_refusal r
+abbrev pub numbers_of_place : Answer ℕ → Numbers
+numbers_of_place = numbers_of_value
 
 unfoldable pub finding_of : Finding → Numbers
 finding_of (found p) = accepted p 0 0

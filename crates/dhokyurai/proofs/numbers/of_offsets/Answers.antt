@@ -8,5 +8,5 @@ use Rattle.dhokyurai.proofs.numbers.of_offsets.Goals as goal
 pub returns-in-Err : goal.returns-in-Err
 returns-in-Err c = c.refused.ensures ∙ sym (ap numbers_of_offsets c.in-Err.is)
 
-pub returns-in-Given : goal.returns-in-Given
-returns-in-Given c = sym (ap numbers_of_offsets c.in-Given.is)
+pub returns-in-Ok : goal.returns-in-Ok
+returns-in-Ok c = sym (ap numbers_of_offsets c.in-Ok.is)
