@@ -15,12 +15,9 @@ ghost use Rattle.summary.specs.Summary.{summary_of, place_of, datum_of};
 ghost use Rattle.summary.specs.Calls.{reading_of, list_after, finding_of};
 ghost use Rattle.dhokyurai.specs.Signed.{signed};
 
-use answer::{Answer, Numbers};
-use canonical::{Print, Written};
+use answer::Numbers;
 use ground::copy;
 use row::Layout;
-use set::Naming;
-use summary::{Offsets, Place};
 
 // How many bytes the memory of a set has.
 #[unsafe(no_mangle)]

@@ -53,8 +53,10 @@ pub(crate) fn join(
     if Counts::STRING_BYTES - sum.string_bytes < bytes {
         return refused(Why::TooManyStringBytes, place);
     }
-    first_fault(mem, sum.rows, from, start, n).map_err(|f| f.placed(place))?;
-    Ok(push(mem, sum, from, start, n))
+    match first_fault(mem, sum.rows, from, start, n) {
+        Err(f) => Err(f.placed(place)),
+        Ok(()) => Ok(push(mem, sum, from, start, n)),
+    }
 }
 
 // 47 of the last n rows, from `start` on. The check lays out large tables, so it is asked first whether there is a default.
@@ -81,8 +83,9 @@ pub(crate) fn append(
         → Ended out.new out.new result (append (decode out.old) rows) }
 {
     let sum = counts(out);
-    let place = sum.declarations;
     let c = join(out, from, start, n, bytes)?;
-    misfit(out, sum.rows, n).map_err(|f| f.placed(place))?;
-    Ok(c)
+    match misfit(out, sum.rows, n) {
+        Err(f) => Err(f.placed(sum.declarations)),
+        Ok(()) => Ok(c),
+    }
 }

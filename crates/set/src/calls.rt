@@ -147,6 +147,8 @@ pub fn put(mem: &mut [u8], place: usize, text: &[u8]) -> Answer<Counts>
         return refused(Why::TooManyDeclarations, Counts::DECLARATIONS);
     }
     let mut draft = [0u8; Layout::LENGTH];
-    let read = read_text(text, &mut draft).map_err(|f| f.placed(place))?;
-    put_rows(mem, place, &draft, read.rows, read.string_bytes)
+    match read_text(text, &mut draft) {
+        Err(f) => Err(f.placed(place)),
+        Ok(c) => put_rows(mem, place, &draft, c.rows, c.string_bytes),
+    }
 }

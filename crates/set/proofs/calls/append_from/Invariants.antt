@@ -1,6 +1,6 @@
 -- `set::calls::append_from` meets its contract.
 -- Assumes nothing.
-use Prim.Native.Nat.{◌-◌, ◌≤◌}
+use Prim.Native.Nat.{◌≤◌}
 use Rattle.row.specs.Sets.{decode}
 use lib.ListN.{drop}
 use Rattle.set.specs.Lists.{append_all}
@@ -9,6 +9,3 @@ use Rattle.set.proofs.calls.append_from.Given as goal
 
 abbrev pub invariant-loop-i : goal.invariant-loop-i
 invariant-loop-i l = (l.i ≤ l.n) × Left (append_all (decode l.initial.out) (drop l.place (decode l.mem))) l.mem l.out l.start l.i
-
-abbrev pub decreases-loop-i : goal.decreases-loop-i
-decreases-loop-i l = l.n - l.i

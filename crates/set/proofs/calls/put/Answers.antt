@@ -17,14 +17,14 @@ returns-then-declarations-place c = put_nowhere _ _ _ (sym c.well_formed-2.ensur
 pub returns-then-place-ge-DECLARATIONS : goal.returns-then-place-ge-DECLARATIONS
 returns-then-place-ge-DECLARATIONS c = put_many _ _ _ (sym c.well_formed-2.ensures ∙ c.if-not-well_formed.false) _ c.declarations.ensures c.if-declarations-place.false c.if-place-ge-DECLARATIONS.true c.refused-then-place-ge-DECLARATIONS.ensures
 
-pub read_text-read-requires : goal.read_text-read-requires
-read_text-read-requires c = refl
+pub read_text-requires : goal.read_text-requires
+read_text-requires c = refl
 
 pub put_rows-requires : goal.put_rows-requires
-put_rows-requires c = put_asks _ _ _ (sym c.well_formed-2.ensures ∙ c.if-not-well_formed.false) _ c.declarations.ensures c.if-declarations-place.false c.if-place-ge-DECLARATIONS.false c.read_text-read.ensures _ c.in-Ok.is
+put_rows-requires c = put_asks _ _ _ (sym c.well_formed-2.ensures ∙ c.if-not-well_formed.false) _ c.declarations.ensures c.if-declarations-place.false c.if-place-ge-DECLARATIONS.false c.read_text.ensures _ c.in-Ok.is
 
 pub returns-in-Err : goal.returns-in-Err
-returns-in-Err c = put_bad _ _ _ (sym c.well_formed-2.ensures ∙ c.if-not-well_formed.false) _ c.declarations.ensures c.if-declarations-place.false c.if-place-ge-DECLARATIONS.false c.read_text-read.ensures c.in-Err.is c.placed.ensures
+returns-in-Err c = put_bad _ _ _ (sym c.well_formed-2.ensures ∙ c.if-not-well_formed.false) _ c.declarations.ensures c.if-declarations-place.false c.if-place-ge-DECLARATIONS.false c.read_text.ensures c.in-Err.is c.placed.ensures
 
 pub returns-in-Ok : goal.returns-in-Ok
-returns-in-Ok c = put_read _ _ _ (sym c.well_formed-2.ensures ∙ c.if-not-well_formed.false) _ c.declarations.ensures c.if-declarations-place.false c.if-place-ge-DECLARATIONS.false c.read_text-read.ensures _ c.in-Ok.is c.put_rows.ensures
+returns-in-Ok c = put_read _ _ _ (sym c.well_formed-2.ensures ∙ c.if-not-well_formed.false) _ c.declarations.ensures c.if-declarations-place.false c.if-place-ge-DECLARATIONS.false c.read_text.ensures _ c.in-Ok.is c.put_rows.ensures

@@ -5,13 +5,13 @@ use Rattle.set.proofs.NameLaws.{naming_not, naming_none, naming_done}
 use Rattle.set.proofs.names.naming_of.Goals as goal
 
 pub returns-then-not-well_formed : goal.returns-then-not-well_formed
-returns-then-not-well_formed c = naming_not _ _ _ (sym c.well_formed-2.ensures ∙ c.if-not-well_formed.true) c.refused_name.ensures
+returns-then-not-well_formed c = naming_not _ _ _ (sym c.well_formed-2.ensures ∙ c.if-not-well_formed.true) c.refused.ensures
 
 pub name_at-name-requires : goal.name_at-name-requires
 name_at-name-requires c = sym c.well_formed-2.ensures ∙ c.if-not-well_formed.false
 
 pub returns-then-name-eq0 : goal.returns-then-name-eq0
-returns-then-name-eq0 c = naming_none _ _ _ (sym c.well_formed-2.ensures ∙ c.if-not-well_formed.false) _ c.name_at-name.ensures.0 c.if-name-eq0.true c.refused_name-then-name-eq0.ensures
+returns-then-name-eq0 c = naming_none _ _ _ (sym c.well_formed-2.ensures ∙ c.if-not-well_formed.false) _ c.name_at-name.ensures.0 c.if-name-eq0.true c.refused-then-name-eq0.ensures
 
 pub returns : goal.returns
 returns c = naming_done _ _ _ (sym c.well_formed-2.ensures ∙ c.if-not-well_formed.false) _ c.name_at-name.ensures.0 c.if-name-eq0.false
