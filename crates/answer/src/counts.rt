@@ -21,9 +21,9 @@ impl Counts {
         ensures { result ≡ counts_of declarations rows string_bytes }
     {
         Counts {
-            declarations: declarations,
-            rows: rows,
-            string_bytes: string_bytes,
+            declarations,
+            rows,
+            string_bytes,
         }
     }
 

@@ -29,9 +29,8 @@ impl Numbers {
     pub fn refused(r: Refusal) -> Self
         ensures { result ≡ of_refusal r }
     {
-        let why = r.why;
         Numbers {
-            number: why.number(),
+            number: r.why.number(),
             first: r.place,
             second: r.at,
             third: 0,

@@ -3,48 +3,48 @@ ghost use Rattle.std.specs.Prelude.{◌≡◌};
 ghost use Rattle.answer.specs.Numbers.{number_of};
 ghost use Rattle.answer.specs.Places.{placed};
 
-// What is wrong. The order is that of 01's table "Numbers returned" and of 02's behind it.
-#[derive(Clone, Copy)]
+// What is wrong. The order and the numbers are those of 01's table "Numbers returned" and of 02's behind it.
+#[derive(Clone, Copy, PartialEq, Eq)]
 pub enum Why {
-    TextTooLong,
-    NotJson,
-    NestedTooDeep,
-    NotASchema,
-    TypeMissing,
-    NameMissing,
-    NotAName,
-    Reserved,
-    StringTooLong,
-    FieldsMissing,
-    FieldNameTaken,
-    SymbolsMissing,
-    SymbolNotAString,
-    SymbolTwice,
-    DefaultNotAString,
-    DefaultNotASymbol,
-    SizeMissing,
-    NotASize,
-    UnionRuleBroken,
-    NotWellFormed,
-    NoSuchPlace,
-    TooManyDeclarations,
-    TooManyRows,
-    TooManyStringBytes,
-    DefinedAlready,
-    ReferenceUnknown,
-    ItemsMissing,
-    ValuesMissing,
-    NoRoom,
-    MarkerWrong,
-    FingerprintUnknown,
-    CutShort,
-    NumberWrong,
-    OutOfRange,
-    TooManySteps,
-    BytesLeftOver,
-    DefaultDoesNotFit,
-    DefaultTooLong,
-    BlockSizeWrong,
+    TextTooLong = 1,
+    NotJson = 2,
+    NestedTooDeep = 3,
+    NotASchema = 4,
+    TypeMissing = 5,
+    NameMissing = 6,
+    NotAName = 7,
+    Reserved = 8,
+    StringTooLong = 9,
+    FieldsMissing = 10,
+    FieldNameTaken = 11,
+    SymbolsMissing = 12,
+    SymbolNotAString = 13,
+    SymbolTwice = 14,
+    DefaultNotAString = 15,
+    DefaultNotASymbol = 16,
+    SizeMissing = 17,
+    NotASize = 18,
+    UnionRuleBroken = 19,
+    NotWellFormed = 20,
+    NoSuchPlace = 21,
+    TooManyDeclarations = 22,
+    TooManyRows = 23,
+    TooManyStringBytes = 24,
+    DefinedAlready = 25,
+    ReferenceUnknown = 26,
+    ItemsMissing = 27,
+    ValuesMissing = 28,
+    NoRoom = 29,
+    MarkerWrong = 40,
+    FingerprintUnknown = 41,
+    CutShort = 42,
+    NumberWrong = 43,
+    OutOfRange = 44,
+    TooManySteps = 45,
+    BytesLeftOver = 46,
+    DefaultDoesNotFit = 47,
+    DefaultTooLong = 48,
+    BlockSizeWrong = 57,
 }
 
 impl Why {
@@ -52,47 +52,7 @@ impl Why {
     pub fn number(self) -> u8
         ensures { result ≡ number_of self }
     {
-        match self {
-            Why::TextTooLong => 1,
-            Why::NotJson => 2,
-            Why::NestedTooDeep => 3,
-            Why::NotASchema => 4,
-            Why::TypeMissing => 5,
-            Why::NameMissing => 6,
-            Why::NotAName => 7,
-            Why::Reserved => 8,
-            Why::StringTooLong => 9,
-            Why::FieldsMissing => 10,
-            Why::FieldNameTaken => 11,
-            Why::SymbolsMissing => 12,
-            Why::SymbolNotAString => 13,
-            Why::SymbolTwice => 14,
-            Why::DefaultNotAString => 15,
-            Why::DefaultNotASymbol => 16,
-            Why::SizeMissing => 17,
-            Why::NotASize => 18,
-            Why::UnionRuleBroken => 19,
-            Why::NotWellFormed => 20,
-            Why::NoSuchPlace => 21,
-            Why::TooManyDeclarations => 22,
-            Why::TooManyRows => 23,
-            Why::TooManyStringBytes => 24,
-            Why::DefinedAlready => 25,
-            Why::ReferenceUnknown => 26,
-            Why::ItemsMissing => 27,
-            Why::ValuesMissing => 28,
-            Why::NoRoom => 29,
-            Why::MarkerWrong => 40,
-            Why::FingerprintUnknown => 41,
-            Why::CutShort => 42,
-            Why::NumberWrong => 43,
-            Why::OutOfRange => 44,
-            Why::TooManySteps => 45,
-            Why::BytesLeftOver => 46,
-            Why::DefaultDoesNotFit => 47,
-            Why::DefaultTooLong => 48,
-            Why::BlockSizeWrong => 57,
-        }
+        self as u8
     }
 }
 
@@ -116,10 +76,9 @@ impl Fault {
     pub fn placed(self, place: usize) -> Refusal
         ensures { result ≡ placed self place }
     {
-        let why = self.why;
         Refusal {
-            why: why,
-            place: place,
+            why: self.why,
+            place,
             at: self.at,
         }
     }
