@@ -15,7 +15,7 @@ use borrow.Author.Tests.{ltb-true, lt-ltb, le-ltb, leb-true}
 use Rattle.std.specs.Prelude.{Result, Ok, Err}
 use Rattle.answer.specs.declared.refusal.Why.TheVariants.{NotWellFormed, NoSuchPlace, NoRoom}
 use Rattle.answer.specs.declared.refusal.Refusal.{Refusal}
-use Rattle.answer.specs.Answers.{accepted, of_refusal}
+use Rattle.answer.specs.Answers.{accepted, of_refusal, Answer}
 use Rattle.answer.proofs.Laws.{first, refusal_one, never_both}
 use Rattle.ground.proofs.Laws.{never, and_true, store_fits}
 use Rattle.name.specs.Name.{every}
@@ -205,7 +205,7 @@ module _ (m : List ℕ) (place : ℕ) where
   -- ---- into a buffer
 
   module _ (offset : ℕ) (b : List ℕ) where
-    pub canonical_refused : {a : Result ℕ Refusal} {r : Refusal} → a ≡ Err r → numbers_of_written a ≡ length_of (text_at m place) → (of_refusal r ≡ length_of (written_at m place offset (length b))) × (b ≡ buffer_after (written_at m place offset (length b)) b offset)
+    pub canonical_refused : {a : Answer ℕ} {r : Refusal} → a ≡ Err r → numbers_of_written a ≡ length_of (text_at m place) → (of_refusal r ≡ length_of (written_at m place offset (length b))) × (b ≡ buffer_after (written_at m place offset (length b)) b offset)
     unfolding written_at length_of buffer_after
     canonical_refused {r = r} g e = rw (refused_told r (sym (ap numbers_of_written g) ∙ e)) (refl, refl)
 
@@ -255,13 +255,13 @@ module _ (m : List ℕ) (place : ℕ) where
 
 -- ---- the numbers tell the answer
 
-pub written_one : (a b : Result ℕ Refusal) → numbers_of_written a ≡ numbers_of_written b → a ≡ b
+pub written_one : (a b : Answer ℕ) → numbers_of_written a ≡ numbers_of_written b → a ≡ b
 written_one (Ok n) (Ok k) e = ap Ok (first e)
 written_one (Ok n) (Err s) e = absurd (never_both s _ _ _ (sym e))
 written_one (Err r) (Ok k) e = absurd (never_both r _ _ _ e)
 written_one (Err r) (Err s) e = ap Err (refusal_one r s e)
 
-pub print_one : (a b : Result ℤ Refusal) → numbers_of_print a ≡ numbers_of_print b → a ≡ b
+pub print_one : (a b : Answer ℤ) → numbers_of_print a ≡ numbers_of_print b → a ≡ b
 print_one (Ok f) (Ok g) e = λ i. Ok (e i).1
 print_one (Ok f) (Err s) e = absurd (never_both s _ _ _ (λ i. (sym e i).0))
 print_one (Err r) (Ok g) e = absurd (never_both r _ _ _ (λ i. (e i).0))

@@ -1,6 +1,6 @@
 -- Canonical text and fingerprint of the declaration at a place of a set's memory.
 -- Assumes nothing.
-use Rattle.std.specs.Prelude.{ℕ, zero, suc, ◌+◌, cond, List, [], ◌∷◌, leb, ltb, ℤ, pos, length, Result, Ok, Err}
+use Rattle.std.specs.Prelude.{ℕ, zero, suc, ◌+◌, cond, List, [], ◌∷◌, leb, ltb, ℤ, pos, length, Ok, Err}
 use Rattle.answer.specs.declared.refusal.Why.{Why}
 use Rattle.answer.specs.declared.refusal.Why.TheVariants.{NotWellFormed, NoSuchPlace, NoRoom}
 use Rattle.answer.specs.declared.refusal.Refusal.{Refusal}
@@ -58,7 +58,7 @@ buffer_after (found s) buffer offset = store buffer offset s
 buffer_after (refused r) buffer offset = buffer
 
 -- beside the numbers the fingerprint, 0 where it is refused
-abbrev pub numbers_of_print : Result ℤ Refusal → Numbers × ℤ
+abbrev pub numbers_of_print : Answer ℤ → Numbers × ℤ
 numbers_of_print (Ok f) = (accepted 0 0 0, f)
 numbers_of_print (Err r) = (of_refusal r, pos 0)
 

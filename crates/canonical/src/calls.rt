@@ -10,7 +10,7 @@ ghost use Rattle.canonical.specs.Wrote.{Wrote};
 
 use crate::answers::Written;
 use crate::text::write_piece;
-use answer::{Refusal, Why};
+use answer::{Answer, Refusal, Why};
 use formed::well_formed;
 use row::read::{declarations, rows_before, rows_of};
 
@@ -25,7 +25,7 @@ fn write_declaration(mem: &[u8], place: usize, part: &mut [u8]) -> usize
 }
 
 // Is memory a well-formed set, and is there a declaration at the place?
-fn found(mem: &[u8], place: usize) -> Result<(), Refusal>
+fn found(mem: &[u8], place: usize) -> Answer<()>
     ensures { MatchResult result (λ _. (well_formed mem.now ≡ true) × (place < length (decode mem.now))) (λ r. text_at mem.now place ≡ refused r) }
 {
     if !well_formed(mem) {
@@ -46,7 +46,7 @@ fn found(mem: &[u8], place: usize) -> Result<(), Refusal>
 }
 
 // How long the canonical text of the declaration at a place is: written where there is no room.
-pub fn canonical_length(mem: &[u8], place: usize) -> Result<usize, Refusal>
+pub fn canonical_length(mem: &[u8], place: usize) -> Answer<usize>
     ensures { numbers_of_written result ≡ length_of (text_at mem.now place) }
 {
     found(mem, place)?;
@@ -61,12 +61,7 @@ fn has_room(n: usize, offset: usize, room: usize) -> bool
 }
 
 // The canonical text of the declaration at a place into a buffer, from an offset on.
-pub fn canonical(
-    mem: &[u8],
-    place: usize,
-    buffer: &mut [u8],
-    offset: usize,
-) -> Result<usize, Refusal>
+pub fn canonical(mem: &[u8], place: usize, buffer: &mut [u8], offset: usize) -> Answer<usize>
     ensures { (numbers_of_written result ≡ length_of (written_at mem.now place offset (length buffer.old)))
         × (buffer.new ≡ buffer_after (written_at mem.now place offset (length buffer.old)) buffer.old offset) }
 {
@@ -92,7 +87,7 @@ pub(crate) fn print_of(mem: &[u8], place: usize, text: &mut [u8]) -> i64
 }
 
 // The fingerprint of the canonical text of the declaration at a place.
-pub fn fingerprint(mem: &[u8], place: usize) -> Result<i64, Refusal>
+pub fn fingerprint(mem: &[u8], place: usize) -> Answer<i64>
     ensures { numbers_of_print result ≡ print_of (text_at mem.now place) }
 {
     found(mem, place)?;

@@ -1,6 +1,6 @@
 -- What is answered, in numbers: 0, the place and how many offsets; or the refusal's number, place and position. And the list afterwards.
 -- Assumes nothing.
-use Rattle.std.specs.Prelude.{ℕ, List, Result, Ok, Err, length}
+use Rattle.std.specs.Prelude.{ℕ, List, Ok, Err, length}
 use Rattle.answer.specs.declared.numbers.Numbers.{Numbers}
 use Rattle.answer.specs.declared.refusal.Refusal.{Refusal}
 use Rattle.answer.specs.Answers.{accepted, of_refusal, numbers_of_value, Answer}
@@ -9,11 +9,11 @@ use Rattle.summary.specs.Summary.{Reading, offsets, refused, Finding, found, now
 
 -- a declaration's place and how many offsets are in the list, or a refusal
 abbrev pub Offsets : Type 0
-Offsets = Result (ℕ × ℕ) Refusal
+Offsets = Answer (ℕ × ℕ)
 
 -- the place of a fingerprint, or a refusal
 abbrev pub Place : Type 0
-Place = Result ℕ Refusal
+Place = Answer ℕ
 
 -- the contracts read an answer by them, for each of its cases; they tell the answer (laws `offsets_one`, `place_one`)
 abbrev pub numbers_of_offsets : Offsets → Numbers

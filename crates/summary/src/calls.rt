@@ -8,7 +8,7 @@ ghost use Rattle.formed.specs.WellFormed.{well_formed};
 ghost use Rattle.summary.specs.Summary.{refusal, datum_in, in_room, marker_at, summary_of, datum_of, place_of};
 ghost use Rattle.summary.specs.Calls.{numbers_of_offsets, reading_of, list_after, numbers_of_place, finding_of};
 
-use answer::{Refusal, Why};
+use answer::{Answer, Refusal, Why};
 use canonical::place_with;
 use formed::well_formed;
 use rabin::Rabin;
@@ -22,7 +22,7 @@ fn refusal(why: Why, place: usize, at: usize) -> Refusal
 }
 
 // 20, with a place, where the memory is not well formed.
-fn checked(mem: &[u8], place: usize) -> Result<(), Refusal>
+fn checked(mem: &[u8], place: usize) -> Answer<()>
     ensures { MatchResult result (λ _. well_formed mem.now ≡ true)
         (λ r. (well_formed mem.now ≡ false) × (r ≡ refusal NotWellFormed place 0)) }
 {
@@ -42,7 +42,7 @@ fn read(
     at: usize,
     asked: usize,
     list: &mut [usize],
-) -> Result<(usize, usize), Refusal>
+) -> Answer<(usize, usize)>
     requires { (well_formed mem.now ≡ true) × (place < length (decode mem.now)) × (at ≤ length bytes.now) }
     ensures { (numbers_of_offsets result ≡ reading_of (in_room asked (length list.old) (datum_in (decode mem.now) place bytes.now at)))
         × (list.new ≡ list_after (in_room asked (length list.old) (datum_in (decode mem.now) place bytes.now at)) list.old) }
@@ -76,7 +76,7 @@ fn marker_at(bytes: &[u8]) -> usize
 }
 
 // The first place whose declaration has these fingerprint bytes; 41, at a position, where none has.
-fn place_of(mem: &[u8], print: &[u8], at: usize) -> Result<usize, Refusal>
+fn place_of(mem: &[u8], print: &[u8], at: usize) -> Answer<usize>
     requires { well_formed mem.now ≡ true }
     ensures { MatchResult result (λ place. (place ≡ place_with print.now (decode mem.now)) × (place < length (decode mem.now)))
         (λ r. (length (decode mem.now) ≤ place_with print.now (decode mem.now)) × (r ≡ refusal FingerprintUnknown 0 at)) }
@@ -91,7 +91,7 @@ fn place_of(mem: &[u8], print: &[u8], at: usize) -> Result<usize, Refusal>
 
 // A whole summary: its declaration is found by its fingerprint, and its datum is walked. Offsets count the marker's first byte as 0. The answer is the
 // declaration's place, and how many offsets are in the list.
-pub fn summary(mem: &[u8], bytes: &[u8], list: &mut [usize]) -> Result<(usize, usize), Refusal>
+pub fn summary(mem: &[u8], bytes: &[u8], list: &mut [usize]) -> Answer<(usize, usize)>
     ensures { (numbers_of_offsets result ≡ reading_of (summary_of mem.now bytes.now (length list.old)))
         × (list.new ≡ list_after (summary_of mem.now bytes.now (length list.old)) list.old) }
 {
@@ -108,7 +108,7 @@ pub fn summary(mem: &[u8], bytes: &[u8], list: &mut [usize]) -> Result<(usize, u
 }
 
 // The first place whose declaration has a fingerprint.
-pub fn find(mem: &[u8], fingerprint: i64) -> Result<usize, Refusal>
+pub fn find(mem: &[u8], fingerprint: i64) -> Answer<usize>
     ensures { numbers_of_place result ≡ finding_of (place_of mem.now (bytes_of fingerprint)) }
 {
     checked(mem, 0)?;
@@ -117,12 +117,7 @@ pub fn find(mem: &[u8], fingerprint: i64) -> Result<usize, Refusal>
 }
 
 // A datum by the declaration at a place. Offsets count its first byte as 0.
-pub fn datum(
-    mem: &[u8],
-    place: usize,
-    bytes: &[u8],
-    list: &mut [usize],
-) -> Result<(usize, usize), Refusal>
+pub fn datum(mem: &[u8], place: usize, bytes: &[u8], list: &mut [usize]) -> Answer<(usize, usize)>
     ensures { (numbers_of_offsets result ≡ reading_of (datum_of mem.now place bytes.now (length list.old)))
         × (list.new ≡ list_after (datum_of mem.now place bytes.now (length list.old)) list.old) }
 {
