@@ -9,14 +9,13 @@ use answer::Fault;
 use ground::copy;
 use row::Layout;
 use schema::Walked;
-use script::input::{Line, next_line};
+use script::input::next_line;
 use script::output::{Output, flush, put, put_decimal};
 use std::io;
 use std::io::Stdin;
 
 fn put_fault(stdout: &mut Output, out: &mut [u8], at: usize, f: Fault) -> usize {
-    let why = f.why;
-    let a = put_decimal(stdout, out, at, why.number() as u64);
+    let a = put_decimal(stdout, out, at, u64::from(f.why.number()));
     let b = put(stdout, out, a, b":");
     put_decimal(stdout, out, b, f.at as u64)
 }
@@ -40,10 +39,7 @@ fn put_answer(
 fn append(text: &mut [u8], at: usize, s: &[u8]) -> usize
     ensures { result ≤ length text.new }
 {
-    if text.len() < at {
-        return text.len();
-    }
-    if text.len() - at < s.len() {
+    if text.len() < at || text.len() - at < s.len() {
         return text.len();
     }
     copy(text, at, s);
@@ -66,7 +62,7 @@ fn put_framed(
     let b = append(&mut text, a, string);
     let n = append(&mut text, b, back);
     let all = &text[..];
-    let next = put_answer(stdout, out, at, &all[0..n], draft);
+    let next = put_answer(stdout, out, at, &all[..n], draft);
     put(stdout, out, next, end)
 }
 
@@ -134,17 +130,13 @@ fn run(
     draft: &mut [u8],
     out: &mut [u8],
 ) -> io::Result<()> {
-    let mut line = Line::none();
-    let mut turns = u64::MAX;
-    while 0 < turns {
-        line = next_line(stdin, input, line)?;
-        if !line.there {
+    let mut before = None;
+    for _ in 0..u64::MAX {
+        let Some(line) = next_line(stdin, input, before)? else {
             return Ok(());
-        }
-        let from = line.from;
-        let to = line.to;
-        answer_line(stdout, &input[from..to], draft, out)?;
-        turns -= 1;
+        };
+        answer_line(stdout, &input[line.from..line.to], draft, out)?;
+        before = Some(line);
     }
     Ok(())
 }

@@ -5,8 +5,8 @@ use answer::Answer;
 use canonical::{Print, Written};
 use row::Layout;
 use script::answers::put_refusal;
-use script::hex::{Unhexed, unhex};
-use script::input::{Line, next_line};
+use script::hex::unhex;
+use script::input::next_line;
 use script::output::{Output, flush, put, put_hex, put_signed};
 use std::io;
 use std::io::Stdin;
@@ -30,7 +30,7 @@ fn put_canonical(stdout: &mut Output, mem: &[u8], buffer: &mut [u8], out: &mut [
             if buffer.len() < n {
                 return 0;
             }
-            let a = put_hex(stdout, out, 0, &buffer[0..n]);
+            let a = put_hex(stdout, out, 0, &buffer[..n]);
             let b = put(stdout, out, a, b" ");
             put_print(stdout, mem, out, b)
         }
@@ -61,13 +61,9 @@ fn answer_line(
     out: &mut [u8],
 ) -> usize {
     match unhex(line, text) {
-        Unhexed::NotHex => put(stdout, out, 0, b"what?\n"),
-        Unhexed::Bytes(n) => {
-            if text.len() < n {
-                return 0;
-            }
-            answer(stdout, &text[0..n], mem, buffer, out)
-        }
+        Some(n) if n <= text.len() => answer(stdout, &text[..n], mem, buffer, out),
+        Some(_) => 0,
+        None => put(stdout, out, 0, b"what?\n"),
     }
 }
 
@@ -80,18 +76,14 @@ fn run(
     buffer: &mut [u8],
     out: &mut [u8],
 ) -> io::Result<()> {
-    let mut line = Line::none();
-    let mut turns = u64::MAX;
-    while 0 < turns {
-        line = next_line(stdin, input, line)?;
-        if !line.there {
+    let mut before = None;
+    for _ in 0..u64::MAX {
+        let Some(line) = next_line(stdin, input, before)? else {
             return Ok(());
-        }
-        let from = line.from;
-        let to = line.to;
-        let end = answer_line(stdout, &input[from..to], text, mem, buffer, out);
+        };
+        let end = answer_line(stdout, &input[line.from..line.to], text, mem, buffer, out);
         flush(stdout, out, end)?;
-        turns -= 1;
+        before = Some(line);
     }
     Ok(())
 }

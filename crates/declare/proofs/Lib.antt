@@ -1,2 +1,1 @@
 mod SpotLaws
-mod SequenceLaws

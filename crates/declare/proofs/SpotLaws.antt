@@ -1,28 +1,18 @@
 -- Line and column: the turns of the loop.
 -- Assumes nothing.
-use mathlib.Core.Path.{◌≡◌, refl, sym, ap, ◌∙◌}
+use mathlib.Core.Path.{◌≡◌, sym, ◌∙◌}
 use mathlib.Core.Bool.{Bool, true, false, cond}
-use mathlib.Core.List.{List, [], ◌∷◌}
-use Prim.Native.Nat.{ℕ, suc, ◌+◌, ◌≤◌, ◌<◌}
+use mathlib.Core.List.{List}
+use Prim.Native.Nat.{ℕ, ◌+◌, ◌≤◌, ◌<◌}
 use native.Mathlib.Numerals.{add-one}
 use native.Mathlib.Omega.{arith}
 use lib.Dec.{eqb}
-use lib.ListN.{length, get_or, take, drop, drop_of_length-le, length-take}
-use lib.Seq.{drop-cons, get_or-take}
-use borrow.Author.Tests.{eq-eqb, ne_eqb}
-use Rattle.declare.specs.Spots.{spot_at, stepped, stepped_all, spot_of}
+use lib.ListN.{length, get_or, drop, drop_of_length-le}
+use lib.Seq.{drop-cons}
+use Rattle.declare.specs.Spots.{spot_at, stepped, stepped_all}
 use Rattle.declare.specs.declared.spot.Spot.{Spot}
 
 -- ---- one byte
-
-module _ (s : Spot) (b : ℕ) where
-  pub step_feed : b ≡ 10 → spot_at (s.line + 1) 1 ≡ stepped s b
-  unfolding stepped
-  step_feed e = rw (eq-eqb b 10 e)
-
-  pub step_other : (b ≡ 10 → ⊥) → spot_at s.line (s.column + 1) ≡ stepped s b
-  unfolding stepped
-  step_other n = rw (ne_eqb b 10 n)
 
 -- a line more, or a column more
 some_of : (x : Bool) (s : Spot) → 0 < (cond x (spot_at (s.line + 1) 1) (spot_at s.line (s.column + 1))).column
@@ -50,18 +40,13 @@ module _ (s : Spot) (b : ℕ) (r : Spot) (e : r ≡ stepped s b) (n : ℕ) where
   unfolding stepped
   step_column h = rw e (column_of (eqb b 10) s n h)
 
--- ---- a text, up to a position
+-- ---- the bytes before a position
 
-module _ (t : List ℕ) (at i : ℕ) (s x : Spot) (inv : stepped_all s (drop i (take at t)) ≡ x) (in_text : at ≤ length t) where
-  pub spot_turn : i < at → (r : Spot) → r ≡ stepped s (get_or t i 0) → stepped_all r (drop (i + 1) (take at t)) ≡ x
+module _ (t : List ℕ) (i : ℕ) (s x : Spot) (inv : stepped_all s (drop i t) ≡ x) where
+  pub spot_turn : i < length t → (r : Spot) → r ≡ stepped s (get_or t i 0) → stepped_all r (drop (i + 1) t) ≡ x
   unfolding stepped_all
-  spot_turn h r e =
-      let l : i < length (take at t) = simp length-take (omega arith) in
-      let g : get_or (take at t) i 0 ≡ get_or t i 0 = get_or-take at t i 0 h in
-      rw (e, ← g) (sym (rw (drop-cons (take at t) i 0 l, add-one)) ∙ inv)
+  spot_turn h r e = rw e (sym (rw (drop-cons t i 0 h, add-one)) ∙ inv)
 
-  pub spot_end : at ≤ i → s ≡ x
+  pub spot_end : length t ≤ i → s ≡ x
   unfolding stepped_all
-  spot_end h =
-      let l : length (take at t) ≤ i = simp length-take (omega arith) in
-      sym (rw (drop_of_length-le (take at t) l)) ∙ inv
+  spot_end h = sym (rw (drop_of_length-le t h)) ∙ inv

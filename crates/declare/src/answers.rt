@@ -21,8 +21,7 @@ pub(crate) fn answer(
     requires { length mem.old ≡ layout_length }
 {
     let before = tally.counts;
-    let a = set::put(mem, before.declarations, text);
-    match a {
+    match set::put(mem, before.declarations, text) {
         Answer::Refused(r) => {
             let end = put_refusal(stdout, out, at, text, r);
             flush(stdout, out, end)?;

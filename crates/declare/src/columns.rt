@@ -1,33 +1,10 @@
 // Text in columns, where each byte takes one.
-ghost use Rattle.std.specs.Prelude.{◌≡◌, ◌-◌, min, max};
-
 use script::output::{Output, put};
-
-// a less b, 0 where b is larger.
-pub(crate) fn minus(a: usize, b: usize) -> usize
-    ensures { result ≡ a - b }
-{
-    if b < a { a - b } else { 0 }
-}
-
-pub(crate) fn least(a: usize, b: usize) -> usize
-    ensures { result ≡ min a b }
-{
-    if a < b { a } else { b }
-}
-
-pub(crate) fn most(a: usize, b: usize) -> usize
-    ensures { result ≡ max a b }
-{
-    if a < b { b } else { a }
-}
 
 pub(crate) fn put_blanks(stdout: &mut Output, out: &mut [u8], at: usize, n: usize) -> usize {
     let mut end = at;
-    let mut i = 0;
-    while i < n {
+    for _ in 0..n {
         end = put(stdout, out, end, b" ");
-        i += 1;
     }
     end
 }
@@ -41,7 +18,7 @@ pub(crate) fn put_left(
     width: usize,
 ) -> usize {
     let end = put(stdout, out, at, s);
-    put_blanks(stdout, out, end, minus(width, s.len()))
+    put_blanks(stdout, out, end, width.saturating_sub(s.len()))
 }
 
 // A number, and blanks before it up to a width.
@@ -54,37 +31,23 @@ pub(crate) fn put_right(
 ) -> usize {
     let mut digits = [0u8; 20];
     let k = io::decimal(n, &mut digits);
-    let start = put_blanks(stdout, out, at, minus(width, k));
+    let start = put_blanks(stdout, out, at, width.saturating_sub(k));
     put(stdout, out, start, &digits[0..k])
 }
 
 // How a byte is shown: a tab, a CR or an LF as a blank, any other that is not printable ASCII as `?`.
 fn shown(b: u8) -> u8 {
-    if b == b'\t' {
-        return b' ';
+    match b {
+        b'\t' | b'\n' | b'\r' => b' ',
+        b' '..=b'~' => b,
+        _ => b'?',
     }
-    if b == b'\n' {
-        return b' ';
-    }
-    if b == b'\r' {
-        return b' ';
-    }
-    if b < b' ' {
-        return b'?';
-    }
-    if b'~' < b {
-        return b'?';
-    }
-    b
 }
 
 pub(crate) fn put_shown(stdout: &mut Output, out: &mut [u8], at: usize, s: &[u8]) -> usize {
     let mut end = at;
-    let mut i = 0;
-    while i < s.len() {
-        let one = [shown(s[i])];
-        end = put(stdout, out, end, &one);
-        i += 1;
+    for b in s {
+        end = put(stdout, out, end, &[shown(*b)]);
     }
     end
 }

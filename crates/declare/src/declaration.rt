@@ -2,7 +2,6 @@
 ghost use Rattle.std.specs.Prelude.{◌≡◌, length};
 ghost use Rattle.row.specs.Layout.{layout_length};
 
-use crate::columns::{least, minus};
 use crate::table::put_table;
 use answer::Counts;
 use canonical::{Print, Written, canonical, fingerprint};
@@ -33,45 +32,30 @@ fn put_canonical(
     place: usize,
 ) -> usize {
     let mut text = [0u8; Written::LONGEST];
-    let written = canonical(mem, place, &mut text, 0);
-    match written {
+    match canonical(mem, place, &mut text, 0) {
         Written::Refused(_) => at,
-        Written::Length(n) => {
-            let all = &text[..];
-            put_text(stdout, out, at, &all[0..least(n, all.len())])
-        }
+        Written::Length(n) => put_text(stdout, out, at, &text[..n.min(Written::LONGEST)]),
     }
-}
-
-// The eight digits pairs of a number, highest first.
-fn put_number(stdout: &mut Output, out: &mut [u8], at: usize, b: [u8; 8]) -> usize {
-    let high = [b[7], b[6], b[5], b[4], b[3], b[2], b[1], b[0]];
-    put_hex(stdout, out, at, &high)
 }
 
 // Bytes, each behind a blank.
 fn put_octets(stdout: &mut Output, out: &mut [u8], at: usize, bytes: &[u8]) -> usize {
     let mut end = at;
-    let mut i = 0;
-    while i < bytes.len() {
-        let one = [bytes[i]];
+    for b in bytes {
         let next = put(stdout, out, end, b" ");
-        end = put_hex(stdout, out, next, &one);
-        i += 1;
+        end = put_hex(stdout, out, next, &[*b]);
     }
     end
 }
 
 // A fingerprint as a signed number, in hexadecimal digits, and as its bytes, lowest first.
 fn put_print(stdout: &mut Output, out: &mut [u8], at: usize, state: i64) -> usize {
-    let r = Rabin { state: state };
-    let bytes = r.bytes();
     let a = put(stdout, out, at, b"  fingerprint  ");
     let b = put_signed(stdout, out, a, state);
     let c = put(stdout, out, b, b"\n  hex          ");
-    let d = put_number(stdout, out, c, bytes);
+    let d = put_hex(stdout, out, c, &state.to_be_bytes());
     let e = put(stdout, out, d, b"\n  bytes       ");
-    let f = put_octets(stdout, out, e, &bytes);
+    let f = put_octets(stdout, out, e, &Rabin { state }.bytes());
     put(stdout, out, f, b"\n")
 }
 
@@ -82,8 +66,7 @@ fn put_fingerprint(
     mem: &[u8],
     place: usize,
 ) -> usize {
-    let print = fingerprint(mem, place);
-    match print {
+    match fingerprint(mem, place) {
         Print::Refused(_) => at,
         Print::Fingerprint(state) => put_print(stdout, out, at, state),
     }
@@ -102,8 +85,8 @@ pub(crate) fn put_declaration(
 {
     let place = before.declarations;
     let start = before.rows;
-    let end = least(after.rows, Counts::ROWS);
-    let a = put_counts(stdout, out, at, place, minus(end, start));
+    let end = after.rows.min(Counts::ROWS);
+    let a = put_counts(stdout, out, at, place, end.saturating_sub(start));
     let b = put_table(stdout, out, a, mem, start, end);
     let c = put_canonical(stdout, out, b, mem, place);
     let d = put_fingerprint(stdout, out, c, mem, place);

@@ -2,7 +2,7 @@
 ghost use Rattle.std.specs.Prelude.{◌≤◌, length};
 
 use crate::code::put_code;
-use crate::columns::{least, minus, most, put_blanks, put_shown};
+use crate::columns::{put_blanks, put_shown};
 use crate::lines::line_end;
 use crate::spot::{Spot, spot_of};
 use script::output::{Output, put, put_decimal};
@@ -17,30 +17,30 @@ fn put_spot(stdout: &mut Output, out: &mut [u8], at: usize, spot: Spot) -> usize
 
 // Four columns: dots where something is left out.
 fn put_margin(stdout: &mut Output, out: &mut [u8], at: usize, cut: bool) -> usize {
-    if cut {
-        return put(stdout, out, at, b"... ");
-    }
-    put(stdout, out, at, b"    ")
+    put(stdout, out, at, if cut { b"... " } else { b"    " })
 }
 
 fn put_rest(stdout: &mut Output, out: &mut [u8], at: usize, cut: bool) -> usize {
     if cut {
-        return put(stdout, out, at, b" ...\n");
+        put(stdout, out, at, b" ...\n")
+    } else {
+        put(stdout, out, at, b"\n")
     }
-    put(stdout, out, at, b"\n")
 }
 
-// The code point of a character, where it is not ASCII.
-fn put_letter(stdout: &mut Output, out: &mut [u8], at: usize, code: u32) -> usize {
-    if code < 128 {
-        return at;
+// The code point of a character, where it is to be told and not ASCII.
+fn put_letter(stdout: &mut Output, out: &mut [u8], at: usize, code: Option<u32>) -> usize {
+    match code {
+        Some(code) if 128 <= code => {
+            let a = put(stdout, out, at, b" U+");
+            put_code(stdout, out, a, code)
+        }
+        _ => at,
     }
-    let a = put(stdout, out, at, b" U+");
-    put_code(stdout, out, a, code)
 }
 
 // A caret behind n blanks, and which character stands above it.
-fn put_caret(stdout: &mut Output, out: &mut [u8], at: usize, n: usize, code: u32) -> usize {
+fn put_caret(stdout: &mut Output, out: &mut [u8], at: usize, n: usize, code: Option<u32>) -> usize {
     let a = put_blanks(stdout, out, at, n);
     let b = put(stdout, out, a, b"^");
     let c = put_letter(stdout, out, b, code);
@@ -56,12 +56,12 @@ fn put_line(
     start: usize,
     end: usize,
     p: usize,
-    code: u32,
+    code: Option<u32>,
 ) -> usize
     requires { (start ≤ p) × (p ≤ end) × (end ≤ length text.now) }
 {
-    let from = most(start, minus(p, 60));
-    let to = least(end, p + 40);
+    let from = start.max(p.saturating_sub(60));
+    let to = end.min(p + 40);
     let a = put_margin(stdout, out, at, start < from);
     let b = put_shown(stdout, out, a, &text[from..to]);
     let c = put_rest(stdout, out, b, to < end);
@@ -75,11 +75,11 @@ pub(crate) fn put_excerpt(
     at: usize,
     text: &[u8],
     position: usize,
-    code: u32,
+    code: Option<u32>,
 ) -> usize {
-    let p = least(position, text.len());
+    let p = position.min(text.len());
     let spot = spot_of(text, p);
-    let start = minus(p + 1, spot.column);
+    let start = (p + 1).saturating_sub(spot.column);
     let end = line_end(text, p);
     let a = put_spot(stdout, out, at, spot);
     put_line(stdout, out, a, text, start, end, p, code)

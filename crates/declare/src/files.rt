@@ -5,8 +5,8 @@ ghost use Rattle.row.specs.Layout.{layout_length};
 use crate::answers::answer;
 use crate::columns::put_shown;
 use crate::complaint::complain;
-use crate::input::read_all;
 use crate::tally::Tally;
+use script::input::read_full;
 use script::output::Output;
 use std::env::Env;
 use std::fs::File;
@@ -26,14 +26,16 @@ fn answer_open(
 ) -> io::Result<Tally>
     requires { length mem.old ≡ layout_length }
 {
-    let filled = read_all(&mut file, text);
-    if let Some(why) = filled.failure {
-        complain(stdout, stderr, path, b" cannot be read", why)?;
-        return Ok(tally.unread());
+    match read_full(&mut file, text) {
+        Ok(n) => {
+            let at = put_shown(stdout, out, 0, path);
+            answer(stdout, mem, &text[..n], out, at, tally.tried())
+        }
+        Err(why) => {
+            complain(stdout, stderr, path, b" cannot be read", why)?;
+            Ok(tally.unread())
+        }
     }
-    let n = filled.to;
-    let at = put_shown(stdout, out, 0, path);
-    answer(stdout, mem, &text[0..n], out, at, tally.tried())
 }
 
 // A file, whose path is text.
@@ -98,10 +100,8 @@ pub(crate) fn answer_files(
     requires { length mem.old ≡ layout_length }
 {
     let mut tally = Tally::none();
-    let mut i = 1;
-    while i < n {
+    for i in 1..n {
         tally = answer_argument(rt, stdout, i, mem, text, out, tally)?;
-        i += 1;
     }
     Ok(tally)
 }

@@ -6,52 +6,38 @@ ghost use Rattle.declare.specs.Sequence.{all_space, is_text};
 
 use crate::answers::answer;
 use crate::complaint::complain;
-use crate::pieces::{Piece, next_piece};
 use crate::tally::Tally;
+use script::input::next_part;
 use script::output::{Output, put, put_decimal};
 use std::io;
 use std::io::{Error, Stderr, Stdin};
 
+// What begins a text.
+const MARK: u8 = 0x1E;
+
 fn is_space(b: u8) -> bool
     ensures { result ≡ is_space b }
 {
-    if b == b' ' {
-        return true;
-    }
-    if b == b'\t' {
-        return true;
-    }
-    if b == b'\n' {
-        return true;
-    }
-    b == b'\r'
+    matches!(b, b' ' | b'\t' | b'\n' | b'\r')
 }
 
 fn all_space(s: &[u8]) -> bool
     ensures { result ≡ all_space s.now }
 {
-    let mut i = 0;
-    while i < s.len() {
-        if !is_space(s[i]) {
-            return false;
-        }
-        i += 1;
-    }
-    true
+    s.iter().all(|b| is_space(*b))
 }
 
 // Is a piece a text? What stands before the first mark is none where it is white space, and nothing between two marks is none.
 // Where there is no mark, all is one text.
+#[tactic(auto, unfolding(crate::specs::Sequence::is_text))]
 fn is_text(s: &[u8], first: bool, last: bool) -> bool
     ensures { result ≡ is_text s.now first last }
 {
-    if !first {
-        return 0 < s.len();
+    if first {
+        last || !all_space(s)
+    } else {
+        !s.is_empty()
     }
-    if last {
-        return true;
-    }
-    !all_space(s)
 }
 
 fn answer_text(
@@ -104,22 +90,18 @@ pub(crate) fn answer_sequence(
     requires { length mem.old ≡ layout_length }
 {
     let mut tally = Tally::none();
-    let mut piece = Piece::none();
-    let mut first = true;
-    let mut turns = u64::MAX;
-    while 0 < turns {
-        piece = next_piece(stdin, buf, piece);
-        let from = piece.from;
-        let to = piece.to;
-        if let Some(why) = piece.failure {
-            return unreadable(stdout, stderr, why, tally);
-        }
-        tally = answer_piece(stdout, mem, &buf[from..to], first, piece.last, out, tally)?;
+    let mut before = None;
+    for _ in 0..u64::MAX {
+        let piece = match next_part(stdin, buf, MARK, before) {
+            Ok(piece) => piece,
+            Err(why) => return unreadable(stdout, stderr, why, tally),
+        };
+        let text = &buf[piece.from..piece.to];
+        tally = answer_piece(stdout, mem, text, before.is_none(), piece.last, out, tally)?;
         if piece.last {
             return Ok(tally);
         }
-        first = false;
-        turns -= 1;
+        before = Some(piece);
     }
     Ok(tally)
 }

@@ -10,19 +10,21 @@ pub(crate) struct Spot {
 }
 
 // Where the byte behind b stands.
+#[tactic(auto, unfolding(crate::specs::Spots::stepped))]
 fn step(spot: Spot, b: u8) -> Spot
     requires { (spot.line < 18446744073709551615) × (spot.column < 18446744073709551615) }
     ensures { result ≡ stepped spot b }
 {
     if b == b'\n' {
-        return Spot {
+        Spot {
             line: spot.line + 1,
             column: 1,
-        };
-    }
-    Spot {
-        line: spot.line,
-        column: spot.column + 1,
+        }
+    } else {
+        Spot {
+            line: spot.line,
+            column: spot.column + 1,
+        }
     }
 }
 
@@ -32,10 +34,8 @@ pub(crate) fn spot_of(text: &[u8], at: usize) -> Spot
     ensures { (result ≡ spot_of text.now at) × (0 < result.column) × (result.column ≤ at + 1) }
 {
     let mut spot = Spot { line: 1, column: 1 };
-    let mut i = 0;
-    while i < at {
-        spot = step(spot, text[i]);
-        i += 1;
+    for b in &text[..at] {
+        spot = step(spot, *b);
     }
     spot
 }

@@ -2,36 +2,19 @@
 ghost use Rattle.std.specs.Prelude.{◌≡◌, ◌≤◌, length};
 ghost use Rattle.row.specs.Layout.{row_limit, layout_length};
 
-use crate::columns::{least, most, put_left, put_right, put_shown};
-use crate::lines::line;
+use crate::columns::{put_left, put_right, put_shown};
 use decimals::limit;
 use row::read::{default_of, read_row, string_of};
 use row::{Entry, Kind};
+use script::answers::kind_word;
 use script::output::{Output, put, put_decimal};
-use script::words::word;
-
-// The word of a kind: word n is that of the kind whose number is n.
-fn put_kind(stdout: &mut Output, out: &mut [u8], at: usize, kind: Kind) -> usize {
-    let words =
-        b" null boolean int long float double bytes string        reference        array map union      record enum fixed      field symbol       alias field-alias";
-    let n = kind.number() as usize;
-    put_left(stdout, out, at, word(words, n), 11)
-}
-
-fn is_fixed(kind: Kind) -> bool {
-    match kind {
-        Kind::Fixed => true,
-        _ => false,
-    }
-}
 
 fn put_size(stdout: &mut Output, out: &mut [u8], at: usize, row: Entry) -> usize {
-    let kind = row.kind;
-    if is_fixed(kind) {
-        let a = put(stdout, out, at, b"  size ");
-        return put_decimal(stdout, out, a, row.size);
+    if !matches!(row.kind, Kind::Fixed) {
+        return at;
     }
-    at
+    let a = put(stdout, out, at, b"  size ");
+    put_decimal(stdout, out, a, row.size)
 }
 
 fn put_holds(stdout: &mut Output, out: &mut [u8], at: usize, row: Entry) -> usize {
@@ -41,15 +24,16 @@ fn put_holds(stdout: &mut Output, out: &mut [u8], at: usize, row: Entry) -> usiz
     put_decimal(stdout, out, c, row.scale)
 }
 
-// Why there is no decimal: line n is that of note n, up to 6.
-fn put_reason(stdout: &mut Output, out: &mut [u8], at: usize, note: u8) -> usize {
-    let all = b"\n\n\
-        no decimal, precision missing\n\
-        no decimal, precision not digits up to 2^64 - 1\n\
-        no decimal, scale not digits up to 2^64 - 1\n\
-        no decimal, precision 0\n\
-        no decimal, precision below scale";
-    put(stdout, out, at, line(all, note as usize))
+// Why there is no decimal, by the note.
+fn reason(note: u8) -> &'static [u8] {
+    match note {
+        2 => b"no decimal, precision missing",
+        3 => b"no decimal, precision not digits up to 2^64 - 1",
+        4 => b"no decimal, scale not digits up to 2^64 - 1",
+        5 => b"no decimal, precision 0",
+        6 => b"no decimal, precision below scale",
+        _ => b"",
+    }
 }
 
 // The limit that the precision is above.
@@ -66,20 +50,18 @@ fn put_note(stdout: &mut Output, out: &mut [u8], at: usize, row: Entry) -> usize
         return at;
     }
     let a = put(stdout, out, at, b"  note ");
-    let b = put_decimal(stdout, out, a, row.note as u64);
+    let b = put_decimal(stdout, out, a, u64::from(row.note));
     let c = put(stdout, out, b, b": ");
-    if row.note == 1 {
-        return put_holds(stdout, out, c, row);
+    match row.note {
+        1 => put_holds(stdout, out, c, row),
+        7 => put_limit(stdout, out, c, row.size),
+        note => put(stdout, out, c, reason(note)),
     }
-    if row.note == 7 {
-        return put_limit(stdout, out, c, row.size);
-    }
-    put_reason(stdout, out, c, row.note)
 }
 
 // A field's default as it is written, where there is one.
 fn put_default(stdout: &mut Output, out: &mut [u8], at: usize, default: &[u8]) -> usize {
-    if default.len() == 0 {
+    if default.is_empty() {
         return at;
     }
     let a = put(stdout, out, at, b"  default ");
@@ -88,14 +70,7 @@ fn put_default(stdout: &mut Output, out: &mut [u8], at: usize, default: &[u8]) -
 
 // Does anything stand behind the name?
 fn has_more(row: Entry, default: &[u8]) -> bool {
-    let kind = row.kind;
-    if is_fixed(kind) {
-        return true;
-    }
-    if 0 < row.note {
-        return true;
-    }
-    0 < default.len()
+    matches!(row.kind, Kind::Fixed) || 0 < row.note || !default.is_empty()
 }
 
 // The name, the numbers and the default, as far as there are any.
@@ -115,7 +90,7 @@ fn put_end(
         let d = put_note(stdout, out, c, row);
         return put_default(stdout, out, d, default);
     }
-    if name.len() == 0 {
+    if name.is_empty() {
         return at;
     }
     let a = put(stdout, out, at, b"  ");
@@ -124,12 +99,11 @@ fn put_end(
 
 // The columns that every row has.
 fn put_front(stdout: &mut Output, out: &mut [u8], at: usize, n: usize, row: Entry) -> usize {
-    let kind = row.kind;
     let a = put_right(stdout, out, at, n as u64, 6);
     let b = put(stdout, out, a, b"  ");
-    let c = put_kind(stdout, out, b, kind);
-    let d = put_right(stdout, out, c, row.depth as u64, 7);
-    put_right(stdout, out, d, row.position as u64, 10)
+    let c = put_left(stdout, out, b, kind_word(row.kind), 11);
+    let d = put_right(stdout, out, c, u64::from(row.depth), 7);
+    put_right(stdout, out, d, u64::from(row.position), 10)
 }
 
 fn put_row(
@@ -152,11 +126,8 @@ fn widest(mem: &[u8], start: usize, end: usize) -> usize
     requires { (length mem.now ≡ layout_length) × (end ≤ row_limit) }
 {
     let mut width = 0;
-    let mut i = start;
-    while i < end {
-        let name = string_of(mem, i);
-        width = most(width, least(name.len(), 40));
-        i += 1;
+    for i in start..end {
+        width = width.max(string_of(mem, i).len().min(40));
     }
     width
 }
@@ -173,13 +144,11 @@ fn put_each(
     requires { (length mem.now ≡ layout_length) × (end ≤ row_limit) }
 {
     let mut to = at;
-    let mut i = start;
-    while i < end {
+    for i in start..end {
         let row = read_row(mem, i);
         let name = string_of(mem, i);
         let default = default_of(mem, i);
         to = put_row(stdout, out, to, i - start, row, name, default, width);
-        i += 1;
     }
     to
 }

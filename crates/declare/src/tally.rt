@@ -11,11 +11,6 @@ pub(crate) struct Tally {
     pub(crate) unread: usize,
 }
 
-// One more, at most the largest number.
-fn more(n: usize) -> usize {
-    if n < 18446744073709551615 { n + 1 } else { n }
-}
-
 impl Tally {
     pub(crate) fn none() -> Self {
         Tally {
@@ -28,44 +23,30 @@ impl Tally {
 
     // One more text is tried.
     pub(crate) fn tried(self) -> Tally {
-        let counts = self.counts;
         Tally {
-            counts: counts,
-            texts: more(self.texts),
-            refused: self.refused,
-            unread: self.unread,
+            texts: self.texts.saturating_add(1),
+            ..self
         }
     }
 
     // It was accepted, and the set has these counts.
     pub(crate) fn accepted(self, counts: Counts) -> Tally {
-        Tally {
-            counts: counts,
-            texts: self.texts,
-            refused: self.refused,
-            unread: self.unread,
-        }
+        Tally { counts, ..self }
     }
 
     // It was refused.
     pub(crate) fn refused(self) -> Tally {
-        let counts = self.counts;
         Tally {
-            counts: counts,
-            texts: self.texts,
-            refused: more(self.refused),
-            unread: self.unread,
+            refused: self.refused.saturating_add(1),
+            ..self
         }
     }
 
     // It could not be read.
     pub(crate) fn unread(self) -> Tally {
-        let counts = self.counts;
         Tally {
-            counts: counts,
-            texts: self.texts,
-            refused: self.refused,
-            unread: more(self.unread),
+            unread: self.unread.saturating_add(1),
+            ..self
         }
     }
 }
@@ -89,8 +70,7 @@ fn put_unread(stdout: &mut Output, out: &mut [u8], at: usize, n: usize) -> usize
 }
 
 pub(crate) fn put_tally(stdout: &mut Output, out: &mut [u8], at: usize, tally: Tally) -> usize {
-    let counts = tally.counts;
-    let a = put_counts(stdout, out, at, counts);
+    let a = put_counts(stdout, out, at, tally.counts);
     let b = put(stdout, out, a, b"; refused ");
     let c = put_decimal(stdout, out, b, tally.refused as u64);
     let d = put_unread(stdout, out, c, tally.unread);

@@ -8,19 +8,7 @@ pub(crate) fn judge(stdout: Stdout, mem: &[u8], n: usize) -> io::Result<()> {
     if mem.len() < n {
         return Ok(());
     }
-    if formed::well_formed(&mem[0..n]) {
-        print!(stdout; "1")
-    } else {
-        print!(stdout; "0")
-    }
-}
-
-fn up(b: u8) -> u8 {
-    if b == 255 { 0 } else { b + 1 }
-}
-
-fn down(b: u8) -> u8 {
-    if b == 0 { 255 } else { b - 1 }
+    print!(stdout; "{}", u8::from(formed::well_formed(&mem[..n])))
 }
 
 // The verdict with another byte at a place; then it is as it was.
@@ -37,22 +25,18 @@ fn with_byte(stdout: Stdout, mem: &mut [u8], at: usize, b: u8) -> io::Result<()>
 
 fn byte(stdout: Stdout, mem: &mut [u8], at: usize) -> io::Result<()> {
     let old = ground::byte_at(mem, at);
-    with_byte(stdout, mem, at, up(old))?;
-    with_byte(stdout, mem, at, down(old))?;
+    with_byte(stdout, mem, at, old.wrapping_add(1))?;
+    with_byte(stdout, mem, at, old.wrapping_sub(1))?;
     with_byte(stdout, mem, at, old ^ 128)
 }
 
 // Each of n bytes, by three values.
 pub(crate) fn bytes(stdout: Stdout, mem: &mut [u8], at: usize, n: usize) -> io::Result<()> {
-    let mut i = at;
-    let mut left = n;
-    while 0 < left {
+    for i in at..at.saturating_add(n) {
         if mem.len() <= i {
             return Ok(());
         }
         byte(stdout, mem, i)?;
-        i += 1;
-        left -= 1;
     }
     println!(stdout)
 }

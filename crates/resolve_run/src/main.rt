@@ -10,7 +10,7 @@ use std::io;
 
 fn main(rt: HostRuntime) -> io::Result<()> {
     let mut text = [0u8; 262144];
-    let n = read_full(rt.stdin(), &mut text)?;
+    let n = read_full(&mut rt.stdin(), &mut text)?;
     let mut mem = [0u8; 51300];
     lines::run(rt.stdout(), &text[..n], &mut mem)
 }

@@ -50,7 +50,10 @@ fn take_byte(stdout: Stdout, text: &mut [u8], line: Line, b: u8) -> io::Result<L
         return Ok(Line { n, high: None });
     }
     text[n] = value(high) * 16 + value(b);
-    Ok(Line { n: n + 1, high: None })
+    Ok(Line {
+        n: n + 1,
+        high: None,
+    })
 }
 
 fn take_bytes(stdout: Stdout, bytes: &[u8], text: &mut [u8], start: Line) -> io::Result<Line>

@@ -7,22 +7,18 @@ use answer::Counts;
 use row::Layout;
 use schema::Walked;
 use script::answers::{put_fault, put_rows, put_spaced};
-use script::hex::{Unhexed, unhex};
-use script::input::{Line, next_line};
+use script::hex::unhex;
+use script::input::next_line;
 use script::output::{Output, flush, put};
 use std::io;
 use std::io::Stdin;
 
 // The rows of a draft, where all are there.
 fn put_draft(stdout: &mut Output, out: &mut [u8], draft: &[u8], counts: Counts) -> usize {
-    let rows = counts.rows;
-    if Counts::ROWS < rows {
+    if Counts::ROWS < counts.rows || Counts::STRING_BYTES < counts.string_bytes {
         return 0;
     }
-    if Counts::STRING_BYTES < counts.string_bytes {
-        return 0;
-    }
-    put_rows(stdout, out, 0, draft, 0, rows)
+    put_rows(stdout, out, 0, draft, 0, counts.rows)
 }
 
 fn put_counts(stdout: &mut Output, out: &mut [u8], at: usize, counts: Counts) -> usize {
@@ -50,19 +46,12 @@ fn answer_line(
     draft: &mut [u8],
     out: &mut [u8],
 ) -> io::Result<()> {
-    match unhex(word, text) {
-        Unhexed::NotHex => {
-            let at = put(stdout, out, 0, b"what?\n");
-            flush(stdout, out, at)
-        }
-        Unhexed::Bytes(n) => {
-            if n <= text.len() {
-                let at = answer(stdout, &text[0..n], draft, out);
-                return flush(stdout, out, at);
-            }
-            Ok(())
-        }
-    }
+    let at = match unhex(word, text) {
+        Some(n) if n <= text.len() => answer(stdout, &text[..n], draft, out),
+        Some(_) => return Ok(()),
+        None => put(stdout, out, 0, b"what?\n"),
+    };
+    flush(stdout, out, at)
 }
 
 fn run(
@@ -73,17 +62,13 @@ fn run(
     draft: &mut [u8],
     out: &mut [u8],
 ) -> io::Result<()> {
-    let mut line = Line::none();
-    let mut turns = u64::MAX;
-    while 0 < turns {
-        line = next_line(stdin, input, line)?;
-        if !line.there {
+    let mut before = None;
+    for _ in 0..u64::MAX {
+        let Some(line) = next_line(stdin, input, before)? else {
             return Ok(());
-        }
-        let from = line.from;
-        let to = line.to;
-        answer_line(stdout, &input[from..to], text, draft, out)?;
-        turns -= 1;
+        };
+        answer_line(stdout, &input[line.from..line.to], text, draft, out)?;
+        before = Some(line);
     }
     Ok(())
 }

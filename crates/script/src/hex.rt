@@ -12,7 +12,7 @@ fn is_hex(b: u8) -> bool
 }
 
 // What a digit stands for; 0 for any other byte.
-fn nibble(b: u8) -> u8
+pub fn nibble(b: u8) -> u8
     ensures { (result ≡ nibble b) × (result < 16) }
 {
     match b {

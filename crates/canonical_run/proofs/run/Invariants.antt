@@ -1,12 +1,8 @@
--- `canonical_run::run` is safe, and ends by its count of turns: the buffers keep their lengths.
+-- `canonical_run::run` is safe: the input's buffer keeps its length.
 -- Assumes nothing.
-use mathlib.Core.Path.{◌≡◌, refl}
+use mathlib.Core.Path.{◌≡◌}
 use lib.ListN.{length}
-use borrow.Author.Rules.{rules}
 use Rattle.canonical_run.proofs.run.Given as goal
 
-abbrev pub invariant-loop-turns : goal.invariant-loop-turns
-invariant-loop-turns l = (length l.input ≡ length l.initial.input) × (length l.text ≡ length l.initial.text) × (length l.mem ≡ length l.initial.mem) × (length l.buffer ≡ length l.initial.buffer) × (length l.out ≡ length l.initial.out)
-
-abbrev pub decreases-loop-turns : goal.decreases-loop-turns
-decreases-loop-turns l = l.turns
+abbrev pub invariant-loop : goal.invariant-loop
+invariant-loop l = length l.input ≡ length l.initial.input

@@ -1,22 +1,10 @@
--- `declare::sequence::all_space` meets its contract: the answer for the bytes that are left is the whole answer.
+-- `declare::sequence::all_space` meets its contract.
 -- Assumes nothing.
-use mathlib.Core.Path.{◌≡◌, refl, sym, ◌∙◌}
-use Prim.Native.Nat.{◌-◌}
-use lib.ListN.{length, drop}
-use borrow.Author.Tests.{not-true, not-false}
-use Rattle.declare.specs.Sequence.{all_space}
-use Rattle.declare.proofs.SequenceLaws.{space_bad, space_turn, space_end}
-use borrow.Author.Rules.{rules}
+use Rattle.std.proofs.Common.{rules, tests}
+use Rattle.std.proofs.lemmas.Iterator.{YieldsList-from_slice}
+use Rattle.std.proofs.lemmas.Iterator.Search.{all_from_yields_List}
+use Rattle.json_scan.specs.Json.{is_space}
 use Rattle.declare.proofs.sequence.all_space.Goals as goal
 
-pub loop-i-init : goal.loop-i-init
-loop-i-init c = refl
-
-pub returns-then-not-is_space : goal.returns-then-not-is_space
-returns-then-not-is_space c = space_bad _ _ _ c.loop-i.invariant c.loop-i-test.true (sym c.is_space.ensures ∙ c.if-not-is_space.true)
-
-pub loop-i-preserved : goal.loop-i-preserved
-loop-i-preserved c = space_turn _ _ _ c.loop-i.invariant c.loop-i-test.true (sym c.is_space.ensures ∙ c.if-not-is_space.false)
-
 pub returns : goal.returns
-returns c = space_end _ _ _ c.loop-i.invariant c.loop-i-test.false
+returns c = all_from_yields_List (λ b. is_space b) _ _ _ c.all.ensures.ran (YieldsList-from_slice c.args.s.now cc) (λ x b q k. search (rules, tests))

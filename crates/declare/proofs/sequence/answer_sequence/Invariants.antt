@@ -1,12 +1,8 @@
--- `declare::sequence::answer_sequence` is safe, and ends by its count of turns.
+-- `declare::sequence::answer_sequence` is safe: the set's memory and the buffer keep their lengths.
 -- Assumes nothing.
-use mathlib.Core.Path.{◌≡◌, refl}
+use mathlib.Core.Path.{◌≡◌}
 use lib.ListN.{length}
-use borrow.Author.Rules.{rules}
 use Rattle.declare.proofs.sequence.answer_sequence.Given as goal
 
-abbrev pub invariant-loop-turns : goal.invariant-loop-turns
-invariant-loop-turns l = (length l.mem ≡ length l.initial.mem) × (length l.buf ≡ length l.initial.buf) × (length l.out ≡ length l.initial.out)
-
-abbrev pub decreases-loop-turns : goal.decreases-loop-turns
-decreases-loop-turns l = l.turns
+abbrev pub invariant-loop : goal.invariant-loop
+invariant-loop l = (length l.buf ≡ length l.initial.buf) × (length l.mem ≡ length l.initial.mem)
