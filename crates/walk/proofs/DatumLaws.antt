@@ -415,7 +415,7 @@ module _ (m : List ℕ) (n : ℕ) (bytes : List ℕ) (row : ℕ) (at : ℕ) wher
       ∙ then_went (going m n bytes (datum (type_at m n row)) h)
 
 -- what a walk keeps from turn to turn
-pub record Held (m : List ℕ) (n : ℕ) (bytes : List ℕ) (row at : ℕ) (frames list found next : List ℕ) (here : Here) : Type 0 where
+pub record Held (m : List ℕ) (n : ℕ) (bytes : List ℕ) (row at : ℕ) (frames list : List ℕ) (found next : List (Option ℕ)) (here : Here) : Type 0 where
   pub bounded : Bounded bytes frames here
   pub listed : Listed list here
   pub whole : pending m n bytes frames list here ≡ walked (rows_from m n 0) bytes (type_at m n row) at
@@ -424,8 +424,8 @@ pub record Held (m : List ℕ) (n : ℕ) (bytes : List ℕ) (row at : ℕ) (fram
   pub found_size : length found ≡ row_limit
   pub next_size : length next ≡ row_limit
 
-module _ {m : List ℕ} {n : ℕ} {bytes : List ℕ} {row at : ℕ} {frames list found next : List ℕ} {here : Here} (k : Held m n bytes row at frames list found next here) where
-  pub held_on : {frames' list' found' next' : List ℕ} {r : Turn} {h : Here} → r ≡ Ok h
+module _ {m : List ℕ} {n : ℕ} {bytes : List ℕ} {row at : ℕ} {frames list : List ℕ} {found next : List (Option ℕ)} {here : Here} (k : Held m n bytes row at frames list found next here) where
+  pub held_on : {frames' list' : List ℕ} {found' next' : List (Option ℕ)} {r : Turn} {h : Here} → r ≡ Ok h
       → Turned m n bytes frames' list' (pending m n bytes frames list here) (to_do here) r → Found m n found' → Follows m n next'
       → length found' ≡ row_limit → length next' ≡ row_limit → Held m n bytes row at frames' list' found' next' h
   held_on e t f g a b =

@@ -37,24 +37,16 @@ pub record FirstPart (m : List ℕ) (n d i j : ℕ) : Type 0 where
   pub deep : j < n → (entry_at m j).depth ≡ d
   pub parts : parts_from m n d j ≡ parts_at d (type_at m n i)
 
--- ---- tables that are asked for truth alone: an entry is 0, or 1 + a row
-
--- the row that a table holds for row i, if it holds one
-unfoldable pub noted : ℕ → Option ℕ
-noted zero = None
-noted (suc d) = Some d
-
-unfoldable pub held : List ℕ → ℕ → Option ℕ
-held table i = noted (get_or table i 0)
+-- ---- tables that are asked for truth alone: an entry is a row, if one is known
 
 -- row d defines what row i refers to
-pub record Found (m : List ℕ) (n : ℕ) (found : List ℕ) : Type 0 where
-  pub below : (i d : ℕ) → get_or found i 0 ≡ suc d → d ≤ n
-  pub says : (i d : ℕ) → get_or found i 0 ≡ suc d → type_at m n d ≡ definition_in (text_at m i) (rows_from m n 0)
+pub record Found (m : List ℕ) (n : ℕ) (found : List (Option ℕ)) : Type 0 where
+  pub below : (i d : ℕ) → get_or found i None ≡ Some d → d ≤ n
+  pub says : (i d : ℕ) → get_or found i None ≡ Some d → type_at m n d ≡ definition_in (text_at m i) (rows_from m n 0)
 
 -- row j is the part behind the part at row i
-pub record Follows (m : List ℕ) (n : ℕ) (next : List ℕ) : Type 0 where
-  pub says : (i j : ℕ) → get_or next i 0 ≡ suc j → FirstPart m n (entry_at m i).depth (i + 1) j
+pub record Follows (m : List ℕ) (n : ℕ) (next : List (Option ℕ)) : Type 0 where
+  pub says : (i j : ℕ) → get_or next i None ≡ Some j → FirstPart m n (entry_at m i).depth (i + 1) j
 
 -- ---- data without parts
 

@@ -102,7 +102,7 @@ fn resume_parts(
     mem: &[u8],
     n: usize,
     bytes: &[u8],
-    next: &mut [u16],
+    next: &mut [Option<u16>],
     frames: &mut [usize],
     here: Here,
 ) -> Result<Here, Fault>
@@ -180,7 +180,7 @@ pub(crate) fn resume(
     mem: &[u8],
     n: usize,
     bytes: &[u8],
-    next: &mut [u16],
+    next: &mut [Option<u16>],
     frames: &mut [usize],
     here: Here,
 ) -> Result<Here, Fault>

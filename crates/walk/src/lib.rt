@@ -41,8 +41,8 @@ pub fn walk(
     ensures { Gave list.new (walked (rows_from mem.now n 0) bytes.now (type_at mem.now n row) at) result }
 {
     let mut frames: [usize; FRAMES] = [0; FRAMES];
-    let mut found: [u16; Counts::ROWS] = [0; Counts::ROWS];
-    let mut next: [u16; Counts::ROWS] = [0; Counts::ROWS];
+    let mut found: [Option<u16>; Counts::ROWS] = [None; Counts::ROWS];
+    let mut next: [Option<u16>; Counts::ROWS] = [None; Counts::ROWS];
     let mut here = Here {
         at,
         left: STEPS,

@@ -1,14 +1,14 @@
 -- `walk::walk` meets its contract: what comes of it all is kept from turn to turn.
 -- Assumes nothing.
-use Rattle.std.proofs.Common.{ℕ, ◌∙◌, arith, rules}
+use Rattle.std.proofs.Common.{Option, None, ℕ, ◌∙◌, arith, rules}
 use lib.ListN.{length-replicate}
 use Rattle.walk.proofs.Laws.{exit}
-use Rattle.walk.proofs.TableLaws.{found_zeros, follows_zeros}
+use Rattle.walk.proofs.TableLaws.{found_nothings, follows_nothings}
 use Rattle.walk.proofs.DatumLaws.{starts, stop_turn, gave_stop, gave_end}
 use Rattle.walk.proofs.walk.Goals as goal
 
 pub loop-here-init : goal.loop-here-init
-loop-here-init c = record { bounded = record { at_bound = c.requires.3; frames_size = length-replicate {A = ℕ} 12288 0; frames_room = omega arith }; listed = record { list_size = c.requires.4; list_room = omega arith }; whole = starts _ _ _ _ _ _ _; defined = found_zeros _ _ 1024; follows = follows_zeros _ _ 1024; found_size = length-replicate {A = ℕ} 1024 0; next_size = length-replicate {A = ℕ} 1024 0 }
+loop-here-init c = record { bounded = record { at_bound = c.requires.3; frames_size = length-replicate {A = ℕ} 12288 0; frames_room = omega arith }; listed = record { list_size = c.requires.4; list_room = omega arith }; whole = starts _ _ _ _ _ _ _; defined = found_nothings _ _ 1024; follows = follows_nothings _ _ 1024; found_size = length-replicate {A = Option ℕ} 1024 None; next_size = length-replicate {A = Option ℕ} 1024 None }
 
 pub visit-requires : goal.visit-requires
 visit-requires c = (c.requires.0, c.requires.1, c.loop-here.invariant.defined, c.loop-here.invariant.follows, c.in-Some.is, c.loop-here.invariant.bounded, c.loop-here.invariant.listed)
