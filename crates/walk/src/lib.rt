@@ -48,11 +48,11 @@ pub fn walk(
         left: STEPS,
         given: 0,
         depth: 0,
-        row: Some(row),
+        row,
     };
     loop {
-        here = match here.row {
-            Some(row) => visit(
+        here = if here.row < Here::NONE {
+            visit(
                 mem,
                 n,
                 bytes,
@@ -60,11 +60,12 @@ pub fn walk(
                 &mut next,
                 &mut frames,
                 list,
-                row,
                 here,
-            )?,
-            None if here.depth == 0 => return Ok((here.at, here.given)),
-            None => resume(mem, n, bytes, &mut next, &mut frames, here)?,
+            )?
+        } else if here.depth == 0 {
+            return Ok((here.at, here.given));
+        } else {
+            resume(mem, n, bytes, &mut next, &mut frames, here)?
         };
     }
 }

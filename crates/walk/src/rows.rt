@@ -1,4 +1,5 @@
-// Types and their parts by the numbers of their rows.
+// Types and their parts by the numbers of their rows. Row n, behind the last, has the empty type: it stands where there is no part, and is visited as any other
+// row is, which an Option would have to be opened for at each use.
 ghost use Rattle.std.specs.Prelude.{◌≡◌, [], ◌+◌, ◌≤◌, ◌<◌, ltb, length, get_or};
 ghost use Rattle.row.specs.Layout.{row_limit, layout_length};
 ghost use Rattle.row.specs.Kinds.{kind_number};
