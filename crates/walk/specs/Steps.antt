@@ -1,6 +1,6 @@
 -- What the code holds on the way: types by the numbers of their rows in memory, two tables, and frames of what is still to come.
 -- Assumes nothing.
-use Rattle.std.specs.Prelude.{ℕ, zero, suc, ◌+◌, ◌-◌, ◌*◌, ◌%◌, ◌≤◌, ◌<◌, ◌≡◌, Bool, not, cond, ◌||◌, List, [], ◌∷◌, Option, Some, None, Result, Ok, Err, eqb, ltb, length, get_or, set, take}
+use Rattle.std.specs.Prelude.{ℕ, zero, suc, ◌+◌, ◌-◌, ◌*◌, ◌/◌, ◌%◌, ◌≤◌, ◌<◌, ◌≡◌, Bool, not, cond, ◌||◌, List, [], ◌∷◌, Option, Some, None, Result, Ok, Err, eqb, ltb, length, get_or, set, take}
 use Rattle.answer.specs.declared.refusal.Fault.{Fault}
 use Rattle.answer.specs.declared.refusal.Why.TheVariants.{CutShort, NumberWrong, OutOfRange, BlockSizeWrong}
 use Rattle.binary.specs.Numbers.{Number, long_at}
@@ -37,24 +37,16 @@ pub record FirstPart (m : List ℕ) (n d i j : ℕ) : Type 0 where
   pub deep : j < n → (entry_at m j).depth ≡ d
   pub parts : parts_from m n d j ≡ parts_at d (type_at m n i)
 
--- ---- tables that are asked for truth alone: an entry is 0, or 1 + a row
-
--- the row that a table holds for row i, if it holds one
-unfoldable pub noted : ℕ → Option ℕ
-noted zero = None
-noted (suc d) = Some d
-
-unfoldable pub held : List ℕ → ℕ → Option ℕ
-held table i = noted (get_or table i 0)
+-- ---- tables that are asked for truth alone: an entry is a row, if one is known
 
 -- row d defines what row i refers to
-pub record Found (m : List ℕ) (n : ℕ) (found : List ℕ) : Type 0 where
-  pub below : (i d : ℕ) → get_or found i 0 ≡ suc d → d ≤ n
-  pub says : (i d : ℕ) → get_or found i 0 ≡ suc d → type_at m n d ≡ definition_in (text_at m i) (rows_from m n 0)
+pub record Found (m : List ℕ) (n : ℕ) (found : List (Option ℕ)) : Type 0 where
+  pub below : (i d : ℕ) → get_or found i None ≡ Some d → d ≤ n
+  pub says : (i d : ℕ) → get_or found i None ≡ Some d → type_at m n d ≡ definition_in (text_at m i) (rows_from m n 0)
 
 -- row j is the part behind the part at row i
-pub record Follows (m : List ℕ) (n : ℕ) (next : List ℕ) : Type 0 where
-  pub says : (i j : ℕ) → get_or next i 0 ≡ suc j → FirstPart m n (entry_at m i).depth (i + 1) j
+pub record Follows (m : List ℕ) (n : ℕ) (next : List (Option ℕ)) : Type 0 where
+  pub says : (i j : ℕ) → get_or next i None ≡ Some j → FirstPart m n (entry_at m i).depth (i + 1) j
 
 -- ---- data without parts
 
@@ -150,13 +142,17 @@ unfoldable pub frames_of : List ℕ → ℕ → List ℕ → ℕ → List Frame
 frames_of m n frames zero = []
 frames_of m n frames (suc d) = frame_of m n (get_or frames (3 * d) 0) (get_or frames (3 * d + 1) 0) (get_or frames (3 * d + 2) 0) ∷ frames_of m n frames d
 
+-- no row is to be visited now
+abbrev pub none : ℕ
+none = row_limit + 1
+
 -- frame d becomes these three numbers
 unfoldable pub pushed : List ℕ → ℕ → ℕ → ℕ → ℕ → List ℕ
 pushed frames d row left size = set (set (set frames (3 * d) row) (3 * d + 1) left) (3 * d + 2) size
 
 -- ---- turns
 
-abbrev pub here_of : ℕ → ℕ → ℕ → ℕ → Option ℕ → Here
+abbrev pub here_of : ℕ → ℕ → ℕ → ℕ → ℕ → Here
 here_of at left given depth row = record { at = at; left = left; given = given; depth = depth; row = row }
 
 unfoldable pub standing : List ℕ → Here → Stand
@@ -174,32 +170,28 @@ outcome m n bytes frames depth h = run bytes (going m n bytes) (frames_of m n fr
 unfoldable pub after : List ℕ → ℕ → List ℕ → List ℕ → ℕ → Outcome → Outcome
 after m n bytes frames depth o = and_then o (λ k. outcome m n bytes frames depth k)
 
--- what comes of a row that is to be visited now, if there is one, and then of them
-unfoldable pub from_row : List ℕ → ℕ → List ℕ → List ℕ → ℕ → Option ℕ → Stand → Outcome
-from_row m n bytes frames depth None h = outcome m n bytes frames depth h
-from_row m n bytes frames depth (Some row) h = after m n bytes frames depth (going m n bytes (datum (type_at m n row)) h)
-
--- what comes of all that is still to come
+-- what comes of all that is still to come: the row that is to be visited now, if there is one, and the frames
 unfoldable pub pending : List ℕ → ℕ → List ℕ → List ℕ → List ℕ → Here → Outcome
-pending m n bytes frames list here = from_row m n bytes frames here.depth here.row (standing list here)
+pending m n bytes frames list here =
+    let h = standing list here in
+    let visited = after m n bytes frames here.depth (going m n bytes (datum (type_at m n here.row)) h) in
+    let resumed = outcome m n bytes frames here.depth h in
+    pick (ltb here.row none) visited resumed
 
 -- the numbers of a walk keep their bounds: a frame and an offset cost a step each
 pub record Bounded (bytes frames : List ℕ) (here : Here) : Type 0 where
   pub at_bound : here.at ≤ length bytes
   pub frames_size : length frames ≡ 3 * steps
   pub frames_room : here.depth + here.left ≤ steps
+  pub row_bound : here.row ≤ none
 
 pub record Listed (list : List ℕ) (here : Here) : Type 0 where
   pub list_size : length list ≡ steps + 1
   pub list_room : here.given + here.left ≤ steps
 
 -- each turn takes a step, pops a frame or gives a row to visit
-abbrev pub rowless : Option ℕ → ℕ
-rowless None = 1
-rowless (Some row) = 0
-
 abbrev pub to_do : Here → ℕ
-to_do here = 4 * here.left + (2 * here.depth + rowless here.row)
+to_do here = 4 * here.left + (2 * here.depth + here.row / none)
 
 -- a turn of the walk: on, or what stops it
 abbrev pub Turn : Type 0

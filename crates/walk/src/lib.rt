@@ -41,18 +41,18 @@ pub fn walk(
     ensures { Gave list.new (walked (rows_from mem.now n 0) bytes.now (type_at mem.now n row) at) result }
 {
     let mut frames: [usize; FRAMES] = [0; FRAMES];
-    let mut found: [u16; Counts::ROWS] = [0; Counts::ROWS];
-    let mut next: [u16; Counts::ROWS] = [0; Counts::ROWS];
+    let mut found: [Option<u16>; Counts::ROWS] = [None; Counts::ROWS];
+    let mut next: [Option<u16>; Counts::ROWS] = [None; Counts::ROWS];
     let mut here = Here {
         at,
         left: STEPS,
         given: 0,
         depth: 0,
-        row: Some(row),
+        row,
     };
     loop {
-        here = match here.row {
-            Some(row) => visit(
+        here = if here.row < Here::NONE {
+            visit(
                 mem,
                 n,
                 bytes,
@@ -60,11 +60,12 @@ pub fn walk(
                 &mut next,
                 &mut frames,
                 list,
-                row,
                 here,
-            )?,
-            None if here.depth == 0 => return Ok((here.at, here.given)),
-            None => resume(mem, n, bytes, &mut next, &mut frames, here)?,
+            )?
+        } else if here.depth == 0 {
+            return Ok((here.at, here.given));
+        } else {
+            resume(mem, n, bytes, &mut next, &mut frames, here)?
         };
     }
 }

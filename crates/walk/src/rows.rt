@@ -1,4 +1,5 @@
-// Types and their parts by the numbers of their rows.
+// Types and their parts by the numbers of their rows. Row n, behind the last, has the empty type: it stands where there is no part, and is visited as any other
+// row is, which an Option would have to be opened for at each use.
 ghost use Rattle.std.specs.Prelude.{◌≡◌, [], ◌+◌, ◌≤◌, ◌<◌, ltb, length, get_or};
 ghost use Rattle.row.specs.Layout.{row_limit, layout_length};
 ghost use Rattle.row.specs.Kinds.{kind_number};
@@ -45,7 +46,13 @@ pub(crate) fn first_part(mem: &[u8], n: usize, i: usize) -> usize
 }
 
 // The part with a number of the row at i, from 0; n where there is none.
-pub(crate) fn part_number(mem: &[u8], n: usize, next: &mut [u16], i: usize, number: u64) -> usize
+pub(crate) fn part_number(
+    mem: &[u8],
+    n: usize,
+    next: &mut [Option<u16>],
+    i: usize,
+    number: u64,
+) -> usize
     requires { (length mem.now ≡ layout_length) × (n ≤ row_limit) × (i < n) × Follows mem.now n next.old }
     ensures { (result ≤ n)
         × (type_at mem.now n result ≡ get_or (parts_at ((entry_at mem.now i).depth + 1) (type_at mem.now n (i + 1))) number [])

@@ -1,10 +1,10 @@
 // A row is visited: its step is taken, and what its datum is by its kind.
-ghost use Rattle.std.specs.Prelude.{◌≡◌, true, List, Some, None, ℕ, ◌+◌, ◌-◌, ◌*◌, ◌<◌, ◌≤◌, length, set};
+ghost use Rattle.std.specs.Prelude.{◌≡◌, true, List, ℕ, ◌+◌, ◌-◌, ◌*◌, ◌<◌, ◌≤◌, length, set};
 ghost use Rattle.row.specs.Layout.{row_limit, layout_length};
 ghost use Rattle.row.specs.Memory.{entry_at};
 ghost use Rattle.row.specs.declared.kind.Kind.TheVariants.{Record, Field, Union, Enum};
 ghost use Rattle.walk.specs.Walk.{steps};
-ghost use Rattle.walk.specs.Steps.{is_leaf, Found, Follows, here_of, pending, Bounded, Listed, to_do, before, Turned, on_datum};
+ghost use Rattle.walk.specs.Steps.{is_leaf, Found, Follows, none, here_of, pending, Bounded, Listed, to_do, before, Turned, on_datum};
 
 use crate::frames::{deeper, header, moved, push};
 use crate::leaves::{choice, fault, leaf};
@@ -23,7 +23,7 @@ fn plain(bytes: &[u8], kind: Kind, size: u64, here: Here) -> Result<Here, Fault>
         → Turned m n bytes.now frames list (on_datum m n bytes.now frames list row here) (before here) result }
 {
     let to = leaf(bytes, kind, size, here.at)?;
-    Ok(moved(here, to, None))
+    Ok(moved(here, to, Here::NONE))
 }
 
 // A record: its first part is to be visited, and a frame keeps the place.
@@ -35,7 +35,7 @@ fn record_at(
     row: usize,
     here: Here,
 ) -> Result<Here, Fault>
-    requires { (length mem.now ≡ layout_length) × (n ≤ row_limit) × (row < n) × ((entry_at mem.now row).kind ≡ Record) × (here.depth + here.left < steps) × (here.row ≡ None)
+    requires { (length mem.now ≡ layout_length) × (n ≤ row_limit) × (row < n) × ((entry_at mem.now row).kind ≡ Record) × (here.depth + here.left < steps) × (here.row ≡ none)
         × Bounded bytes.now frames.old here }
     ensures { (list : List ℕ) → Listed list here
         → Turned mem.now n bytes.now frames.new list (on_datum mem.now n bytes.now frames.old list row here) (before here) result }
@@ -45,13 +45,13 @@ fn record_at(
         return Ok(here);
     }
     push(frames, here.depth, Counts::ROWS + part, 0, 0);
-    Ok(deeper(here, Some(part)))
+    Ok(deeper(here, part))
 }
 
 // The offset where the walk stands is given, and another row is to be visited.
 fn given(list: &mut [usize], here: Here, at: usize, row: usize) -> Here
     requires { (here.given < steps) × (length list.old ≡ steps + 1) }
-    ensures { (result ≡ here_of at here.left (here.given + 1) here.depth (Some row))
+    ensures { (result ≡ here_of at here.left (here.given + 1) here.depth row)
         × (list.new ≡ set list.old here.given at) }
 {
     let i = here.given;
@@ -59,7 +59,7 @@ fn given(list: &mut [usize], here: Here, at: usize, row: usize) -> Here
     Here {
         at,
         given: here.given + 1,
-        row: Some(row),
+        row,
         ..here
     }
 }
@@ -69,7 +69,7 @@ fn branch(
     mem: &[u8],
     n: usize,
     bytes: &[u8],
-    next: &mut [u16],
+    next: &mut [Option<u16>],
     list: &mut [usize],
     row: usize,
     here: Here,
@@ -93,7 +93,7 @@ fn symbol(
     mem: &[u8],
     n: usize,
     bytes: &[u8],
-    next: &mut [u16],
+    next: &mut [Option<u16>],
     row: usize,
     here: Here,
 ) -> Result<Here, Fault>
@@ -107,7 +107,7 @@ fn symbol(
     if n <= part_number(mem, n, next, row, v) {
         return Err(fault(Why::OutOfRange, here.at));
     }
-    Ok(moved(here, to, None))
+    Ok(moved(here, to, Here::NONE))
 }
 
 // What the datum at a row is, once its step is taken.
@@ -115,22 +115,22 @@ fn datum(
     mem: &[u8],
     n: usize,
     bytes: &[u8],
-    found: &mut [u16],
-    next: &mut [u16],
+    found: &mut [Option<u16>],
+    next: &mut [Option<u16>],
     frames: &mut [usize],
     list: &mut [usize],
     row: usize,
     here: Here,
 ) -> Result<Here, Fault>
     requires { (length mem.now ≡ layout_length) × (n ≤ row_limit) × (row < n) × Found mem.now n found.old × Follows mem.now n next.old
-        × (here.row ≡ None) × (here.depth + here.left < steps) × (here.given + here.left < steps) × Bounded bytes.now frames.old here × Listed list.old here }
+        × (here.row ≡ none) × (here.depth + here.left < steps) × (here.given + here.left < steps) × Bounded bytes.now frames.old here × Listed list.old here }
     ensures { Turned mem.now n bytes.now frames.new list.new
         (on_datum mem.now n bytes.now frames.old list.old row here) (before here) result
         × Found mem.now n found.new × Follows mem.now n next.new }
 {
     let kind = kind_at(mem, row);
     match kind {
-        Kind::Reference => Ok(moved(here, here.at, Some(definition(mem, n, found, row)))),
+        Kind::Reference => Ok(moved(here, here.at, definition(mem, n, found, row))),
         Kind::Record => record_at(mem, n, bytes, frames, row, here),
         Kind::Field => Ok(given(list, here, here.at, first_part(mem, n, row))),
         Kind::Union => branch(mem, n, bytes, next, list, row, here),
@@ -145,15 +145,14 @@ pub(crate) fn visit(
     mem: &[u8],
     n: usize,
     bytes: &[u8],
-    found: &mut [u16],
-    next: &mut [u16],
+    found: &mut [Option<u16>],
+    next: &mut [Option<u16>],
     frames: &mut [usize],
     list: &mut [usize],
-    row: usize,
     here: Here,
 ) -> Result<Here, Fault>
     requires { (length mem.now ≡ layout_length) × (n ≤ row_limit) × Found mem.now n found.old × Follows mem.now n next.old
-        × (here.row ≡ Some row) × Bounded bytes.now frames.old here × Listed list.old here }
+        × (here.row < none) × Bounded bytes.now frames.old here × Listed list.old here }
     ensures { Turned mem.now n bytes.now frames.new list.new
         (pending mem.now n bytes.now frames.old list.old here) (to_do here) result
         × Found mem.now n found.new × Follows mem.now n next.new }
@@ -163,11 +162,11 @@ pub(crate) fn visit(
     }
     let step = Here {
         left: here.left - 1,
-        row: None,
+        row: Here::NONE,
         ..here
     };
-    if n <= row {
+    if n <= here.row {
         return Ok(step);
     }
-    datum(mem, n, bytes, found, next, frames, list, row, step)
+    datum(mem, n, bytes, found, next, frames, list, here.row, step)
 }
