@@ -1,14 +1,11 @@
 -- `json_scan::past` meets its contract: each byte that was passed is of the class, and leaves a mode as it was that the class leaves so.
 -- Assumes nothing.
-use mathlib.Core.Path.{◌≡◌, refl, sym, ap, ◌∙◌}
+use mathlib.Core.Path.{◌≡◌, sym, ap, ◌∙◌}
 use native.Mathlib.Omega.{arith}
 use lib.ListN.{get_or-eq_default}
 use Rattle.json_scan.specs.Meets.{run_at}
 use Rattle.json_scan.proofs.Laws.{hop}
 use Rattle.json_scan.proofs.step.past.Goals as goal
-
-pub loop-at-init : goal.loop-at-init
-loop-at-init g c = (omega arith, λ is post m s k. refl)
 
 pub returns-then-not-is : goal.returns-then-not-is
 returns-then-not-is g c = λ is post z. record { low = c.loop-at.auto.at; high = omega arith; same = c.loop-at.invariant.1 is post; past = sym (post _ _ c.is.ensures) ∙ c.if-not-is.true }
