@@ -1,8 +1,7 @@
 // Reads declarations, a line of hex each, and writes for each the canonical text in hex and the fingerprint, or the refusal.
 #![tactic(auto)]
 
-use answer::Answer;
-use canonical::{Print, Written};
+use canonical::Written;
 use row::Layout;
 use script::answers::put_refusal;
 use script::hex::unhex;
@@ -45,7 +44,7 @@ fn answer(
     buffer: &mut [u8],
     out: &mut [u8],
 ) -> usize {
-    set::open(mem);
+    let _ = set::open(mem);
     match set::put(mem, 0, text) {
         Err(r) => put_refusal(stdout, out, 0, r),
         Ok(_) => put_canonical(stdout, mem, buffer, out),

@@ -5,7 +5,6 @@ ghost use Rattle.row.specs.Layout.{layout_length};
 use crate::declaration::put_declaration;
 use crate::refusal::put_refusal;
 use crate::tally::Tally;
-use answer::Answer;
 use script::output::{Output, flush};
 use std::io;
 
@@ -22,12 +21,12 @@ pub(crate) fn answer(
 {
     let before = tally.counts;
     match set::put(mem, before.declarations, text) {
-        Answer::Refused(r) => {
+        Err(r) => {
             let end = put_refusal(stdout, out, at, text, r);
             flush(stdout, out, end)?;
             Ok(tally.refused())
         }
-        Answer::Done(after) => {
+        Ok(after) => {
             let end = put_declaration(stdout, out, at, mem, before, after);
             flush(stdout, out, end)?;
             Ok(tally.accepted(after))

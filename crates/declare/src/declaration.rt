@@ -4,7 +4,7 @@ ghost use Rattle.row.specs.Layout.{layout_length};
 
 use crate::table::put_table;
 use answer::Counts;
-use canonical::{Print, Written, canonical, fingerprint};
+use canonical::{Written, canonical, fingerprint};
 use rabin::Rabin;
 use script::output::{Output, put, put_decimal, put_hex, put_signed};
 
@@ -33,8 +33,8 @@ fn put_canonical(
 ) -> usize {
     let mut text = [0u8; Written::LONGEST];
     match canonical(mem, place, &mut text, 0) {
-        Written::Refused(_) => at,
-        Written::Length(n) => put_text(stdout, out, at, &text[..n.min(Written::LONGEST)]),
+        Err(_) => at,
+        Ok(n) => put_text(stdout, out, at, &text[..n.min(Written::LONGEST)]),
     }
 }
 
@@ -67,8 +67,8 @@ fn put_fingerprint(
     place: usize,
 ) -> usize {
     match fingerprint(mem, place) {
-        Print::Refused(_) => at,
-        Print::Fingerprint(state) => put_print(stdout, out, at, state),
+        Err(_) => at,
+        Ok(state) => put_print(stdout, out, at, state),
     }
 }
 

@@ -63,7 +63,7 @@ fn main(rt: HostRuntime) -> io::Result<()> {
     let mut text = [0u8; 65536];
     let mut out = [0u8; 65536];
     let mut stdout = Output::new(rt.stdout());
-    set::open(&mut mem);
+    let _ = set::open(&mut mem);
     let tally = answer_all(&rt, &mut stdout, &mut mem, &mut text, &mut out)?;
     let end = put_tally(&mut stdout, &mut out, 0, tally);
     flush(&mut stdout, &out, end)

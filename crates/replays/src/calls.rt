@@ -2,7 +2,6 @@
 use crate::memory::first;
 use crate::report::{put_answer, put_last, put_ok, put_refusal_with, put_what};
 use answer::{Refusal, Why};
-use canonical::{Print, Written};
 use commands::Call;
 use formed::well_formed;
 use rabin::Rabin;

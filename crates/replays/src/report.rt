@@ -26,7 +26,7 @@ fn put_counts(stdout: &mut Output, out: &mut [u8], counts: Counts) -> usize {
     put(stdout, out, d, b"\n")
 }
 
-pub(crate) fn put_answer(stdout: &mut Output, out: &mut [u8], answer: Answer) -> usize {
+pub(crate) fn put_answer(stdout: &mut Output, out: &mut [u8], answer: Answer<Counts>) -> usize {
     match answer {
         Ok(c) => put_counts(stdout, out, c),
         Err(r) => put_refusal(stdout, out, 0, r),

@@ -97,7 +97,13 @@ fn print_members(stdout: Stdout, m: Members) -> io::Result<()> {
     Ok(())
 }
 
-fn print_same(stdout: Stdout, text: &[u8], ends: &[u16], first: Option<usize>, p: usize) -> io::Result<()>
+fn print_same(
+    stdout: Stdout,
+    text: &[u8],
+    ends: &[u16],
+    first: Option<usize>,
+    p: usize,
+) -> io::Result<()>
     requires { Known text.now ends.now }
 {
     match first {

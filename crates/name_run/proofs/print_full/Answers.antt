@@ -1,6 +1,5 @@
 -- `name_run::print_full` is safe and ends: the length that is answered is at most that of the buffer. Assumes nothing.
 use mathlib.Core.Path.{refl}
-use borrow.Author.Rules.{rules}
 use Rattle.name.proofs.Laws.{fits_room}
 use Rattle.name_run.proofs.print_full.Goals as goal
 

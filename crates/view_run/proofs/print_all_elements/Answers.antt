@@ -2,17 +2,9 @@
 -- Assumes nothing.
 use mathlib.Core.Path.{ap}
 use native.Mathlib.Omega.{arith}
-use borrow.Author.Rules.{rules}
 use lib.ListN.{length}
-use Rattle.view.specs.Elements.{elements_at}
 use Rattle.view.proofs.Laws.{left_next}
 use Rattle.view_run.proofs.print_all_elements.Goals as goal
 
-pub loop-spot-init : goal.loop-spot-init
-loop-spot-init c = tt
-
 pub loop-spot-smaller : goal.loop-spot-smaller
 loop-spot-smaller c = omega (arith, ap length (left_next _ c.in-Some.is c.next_element-spot.ensures))
-
-pub loop-spot-preserved : goal.loop-spot-preserved
-loop-spot-preserved c = tt

@@ -1,11 +1,7 @@
 -- `view_run::print_elements` is safe and ends: the elements that are left get fewer.
 -- Assumes nothing.
-use mathlib.Core.Path.{ap}
-use native.Mathlib.Omega.{arith}
-use borrow.Author.Rules.{rules}
 use lib.ListN.{length}
 use Rattle.view.specs.Elements.{elements_at}
-use Rattle.view.proofs.Laws.{left_next}
 use Rattle.view_run.proofs.print_elements.Given as goal
 
 abbrev pub invariant-loop-spot : goal.invariant-loop-spot

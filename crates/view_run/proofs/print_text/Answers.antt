@@ -1,6 +1,5 @@
 -- `view_run::print_text` is safe and ends.
 -- Assumes nothing.
-use borrow.Author.Rules.{rules}
 use Rattle.view.proofs.Laws.{known_none}
 use Rattle.view_run.proofs.print_text.Goals as goal
 
