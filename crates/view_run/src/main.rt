@@ -2,7 +2,7 @@
 // elements or named members.
 #![tactic(auto)]
 
-ghost use Rattle.std.specs.Prelude.{◌≡◌, ◌<◌, ◌≤◌, length};
+ghost use Rattle.std.specs.Prelude.{◌≤◌, length};
 ghost use Rattle.json_scan.specs.Json.{longest};
 ghost use Rattle.view.specs.Known.{Known};
 
