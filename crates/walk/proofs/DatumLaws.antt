@@ -1,6 +1,6 @@
 -- What the datum at a row is, by its kind: one law for each way out of the functions that visit a row, and the whole walk.
 -- Assumes nothing.
-use Rattle.std.specs.Prelude.{Option, Ok, Err}
+use Rattle.std.specs.Prelude.{Option, Some, None, Ok, Err}
 use mathlib.Core.Path.{◌≡◌, refl, sym, ap, subst, ◌∙◌}
 use mathlib.Core.Bool.{true, false}
 use mathlib.Core.List.{List, [], ◌∷◌, ◌++◌}
@@ -26,7 +26,7 @@ use Rattle.resolve.specs.Resolve.{definition_in}
 use Rattle.resolve.proofs.MemoryLaws.{rows_next, rows_end}
 use Rattle.walk.specs.Parts.{parts_at, parts_of, first}
 use Rattle.walk.specs.Walk.{Stand, Outcome, went, stopped, Item, datum, blocks, and_then, moved_to, giving, spent, in_turn, kind_datum, one_item, steps, walked}
-use Rattle.walk.specs.Steps.{Walked, Read, Choice, Turn, type_at, parts_from, parts_behind, FirstPart, Found, Follows, reading, leaf_of, is_leaf, Reads, choosing, Chooses, pushed, none, here_of, standing, going, outcome, after, pending, Bounded, Listed, to_do, Turned, on, stop, on_datum, on_blocks, before, Gave, gave, refused}
+use Rattle.walk.specs.Steps.{Walked, Read, Choice, Turn, type_at, parts_from, parts_behind, FirstPart, Found, Follows, reading, leaf_of, is_leaf, Reads, choosing, Chooses, pushed, rowless, here_of, standing, going, outcome, after, pending, Bounded, Listed, to_do, Turned, on, stop, on_datum, on_blocks, before, Gave, gave, refused}
 use Rattle.walk.specs.declared.states.Here.{Here}
 use Rattle.walk.proofs.Fuel.{visit_none, visit_step}
 use Rattle.walk.proofs.FrameLaws.{pick_true, pick_false, length_pushed, after_went, after_stopped, after_then, outcome_end, outcome_parts}
@@ -90,10 +90,10 @@ module _ (m : List ℕ) (n d i j : ℕ) (p : FirstPart m n d i j) where
       go (no l) = rows_end m j n (omega arith) ∙ sym (ap first (parts_none (omega arith)))
 
 -- a step is taken
-pub step_bounded : (bytes frames : List ℕ) (here : Here) → Bounded bytes frames here → Bounded bytes frames (here_of here.at (here.left - 1) here.given here.depth none)
-step_bounded bytes frames here b = record { at_bound = b.at_bound; frames_size = b.frames_size; frames_room = omega arith; row_bound = omega arith }
+pub step_bounded : (bytes frames : List ℕ) (here : Here) → Bounded bytes frames here → Bounded bytes frames (here_of here.at (here.left - 1) here.given here.depth None)
+step_bounded bytes frames here b = record { at_bound = b.at_bound; frames_size = b.frames_size; frames_room = omega arith }
 
-pub step_listed : (list : List ℕ) (here : Here) → Listed list here → Listed list (here_of here.at (here.left - 1) here.given here.depth none)
+pub step_listed : (list : List ℕ) (here : Here) → Listed list here → Listed list (here_of here.at (here.left - 1) here.given here.depth None)
 step_listed list here l = record { list_size = l.list_size; list_room = omega arith }
 
 module _ (m : List ℕ) (n : ℕ) (bytes : List ℕ) where
@@ -119,13 +119,13 @@ module _ (m : List ℕ) (n : ℕ) (bytes : List ℕ) where
             ∙ ap (λ (x : ℕ). leaf_of bytes k x (standing list here)) (sym s)
             ∙ sym (q.says (standing list here) refl))
 
-        pub plain_to : {r : Turn} {to : ℕ} → read ≡ Ok to → r ≡ Ok (here_of to here.left here.given here.depth none)
+        pub plain_to : {r : Turn} {to : ℕ} → read ≡ Ok to → r ≡ Ok (here_of to here.left here.given here.depth None)
             → Turned m n bytes frames list (on_datum m n bytes frames list row here) (before here) r
         unfolding standing reading moved_to
         plain_to {r} {to} u g =
-            let next = here_of to here.left here.given here.depth none in
+            let next = here_of to here.left here.given here.depth None in
             turned_on m n bytes list g
-            (record { at_bound = q.within to u; frames_size = b.frames_size; frames_room = b.frames_room; row_bound = omega arith })
+            (record { at_bound = q.within to u; frames_size = b.frames_size; frames_room = b.frames_room })
             (record { list_size = l.list_size; list_room = l.list_room })
             (pending_none m n bytes list frames next refl
             ∙ sym (plain_read ∙ ap (λ (x : Read). after m n bytes frames here.depth (reading x (standing list here))) u ∙ after_went m n bytes frames here.depth (standing list next)))
@@ -141,15 +141,15 @@ module _ (m : List ℕ) (n : ℕ) (bytes : List ℕ) where
       -- ---- a reference, and the blocks of an array or map
 
       pub reference_to : {r : Turn} {d : ℕ} → k ≡ Reference → n ≤ row_limit → d ≤ n → type_at m n d ≡ definition_in (text_at m row) (rows_from m n 0)
-          → r ≡ Ok (here_of here.at here.left here.given here.depth d)
+          → r ≡ Ok (here_of here.at here.left here.given here.depth (Some d))
           → Turned m n bytes frames list (on_datum m n bytes frames list row here) (before here) r
       unfolding standing kind_datum
       reference_to {r} {d} f y z x g =
-          let next = here_of here.at here.left here.given here.depth d in
+          let next = here_of here.at here.left here.given here.depth (Some d) in
           turned_on m n bytes list g
-          (record { at_bound = b.at_bound; frames_size = b.frames_size; frames_room = b.frames_room; row_bound = omega arith })
+          (record { at_bound = b.at_bound; frames_size = b.frames_size; frames_room = b.frames_room })
           (record { list_size = l.list_size; list_room = l.list_room })
-          (pending_row m n bytes list frames next (omega arith)
+          (pending_row m n bytes list frames next refl
           ∙ ap (λ (t : List Row). after m n bytes frames here.depth (going m n bytes (datum t) (standing list here))) x
           ∙ sym (datum_kind
           ∙ ap (λ (y : Kind). after m n bytes frames here.depth (kind_datum (rows_from m n 0) bytes (going m n bytes) y (row_at m row) (type_at m n (row + 1)) (standing list here))) f))
@@ -164,14 +164,14 @@ module _ (m : List ℕ) (n : ℕ) (bytes : List ℕ) where
           ∙ ap (λ (y : Kind). after m n bytes frames here.depth (kind_datum (rows_from m n 0) bytes (going m n bytes) y (row_at m row) (type_at m n (row + 1)) (standing list here))) f
           ∙ ap (after m n bytes frames here.depth) g)
 
-      module _ {frames' : List ℕ} {r : Turn} (w : here.row ≡ none) (t : Turned m n bytes frames' list (on_blocks m n bytes frames list row here) (to_do here) r) where
+      module _ {frames' : List ℕ} {r : Turn} (w : here.row ≡ None) (t : Turned m n bytes frames' list (on_blocks m n bytes frames list row here) (to_do here) r) where
         pub array_blocks : k ≡ Array → Turned m n bytes frames' list (on_datum m n bytes frames list row here) (before here) r
         unfolding kind_datum
-        array_blocks f = turned_as m n bytes list (blocks_kind f refl) (omega arith) t
+        array_blocks f = let x : rowless here.row ≡ 1 = ap rowless w in turned_as m n bytes list (blocks_kind f refl) (omega arith) t
 
         pub map_blocks : k ≡ Map → Turned m n bytes frames' list (on_datum m n bytes frames list row here) (before here) r
         unfolding kind_datum
-        map_blocks f = turned_as m n bytes list (blocks_kind f refl) (omega arith) t
+        map_blocks f = let x : rowless here.row ≡ 1 = ap rowless w in turned_as m n bytes list (blocks_kind f refl) (omega arith) t
 
       -- ---- a record
 
@@ -183,9 +183,10 @@ module _ (m : List ℕ) (n : ℕ) (bytes : List ℕ) where
             datum_kind
             ∙ ap (λ (y : Kind). after m n bytes frames here.depth (kind_datum (rows_from m n 0) bytes (going m n bytes) y (row_at m row) (type_at m n (row + 1)) (standing list here))) f
 
-        pub record_end : {r : Turn} → here.row ≡ none → n ≤ part → r ≡ Ok here → Turned m n bytes frames list (on_datum m n bytes frames list row here) (before here) r
+        pub record_end : {r : Turn} → here.row ≡ None → n ≤ part → r ≡ Ok here → Turned m n bytes frames list (on_datum m n bytes frames list row here) (before here) r
         unfolding in_turn
         record_end w y g =
+            let x : rowless here.row ≡ 1 = ap rowless w in
             turned_on m n bytes list g b l
             (pending_none m n bytes list frames here w
             ∙ sym (record_parts
@@ -195,11 +196,11 @@ module _ (m : List ℕ) (n : ℕ) (bytes : List ℕ) where
 
         pub record_next : {r : Turn} {frames' : List ℕ} → n ≤ row_limit → here.depth + here.left < steps → part < n
             → frames' ≡ pushed frames here.depth (row_limit + part) 0 0
-            → r ≡ Ok (here_of here.at here.left here.given (here.depth + 1) part)
+            → r ≡ Ok (here_of here.at here.left here.given (here.depth + 1) (Some part))
             → Turned m n bytes frames' list (on_datum m n bytes frames list row here) (before here) r
         unfolding standing in_turn after
         record_next {r} {frames'} y s z q g =
-            let next = here_of here.at here.left here.given (here.depth + 1) part in
+            let next = here_of here.at here.left here.given (here.depth + 1) (Some part) in
             let h = standing list here in
             let c : 3 * here.depth + 3 ≤ length frames = (let e = b.frames_size in omega arith) in
             turned_on m n bytes list g
@@ -207,10 +208,9 @@ module _ (m : List ℕ) (n : ℕ) (bytes : List ℕ) where
               at_bound = b.at_bound;
               frames_size = ap length q ∙ length_pushed frames here.depth (row_limit + part) 0 0 ∙ b.frames_size;
               frames_room = omega arith;
-              row_bound = omega arith;
             })
             (record { list_size = l.list_size; list_room = l.list_room })
-            (pending_row m n bytes list frames' next (omega arith)
+            (pending_row m n bytes list frames' next refl
             ∙ ap (λ (g : Stand → Outcome). and_then (going m n bytes (datum (type_at m n part)) h) g)
             (λ j x. (ap (λ (a : List ℕ). outcome m n bytes a (here.depth + 1) x) q ∙ outcome_parts m n bytes frames here.depth (row_limit + part) 0 0 part x refl (omega arith) c) j)
             ∙ sym (record_parts
@@ -220,11 +220,11 @@ module _ (m : List ℕ) (n : ℕ) (bytes : List ℕ) where
 
       -- ---- a field: its offset is given
 
-      given_listed : {at row' : ℕ} {list' : List ℕ} → here.given + here.left < steps → list' ≡ set list here.given at
+      given_listed : {at : ℕ} {row' : Option ℕ} {list' : List ℕ} → here.given + here.left < steps → list' ≡ set list here.given at
           → Listed list' (here_of at here.left (here.given + 1) here.depth row')
       given_listed {at} s e = record { list_size = ap length e ∙ length-set list here.given at ∙ l.list_size; list_room = omega arith }
 
-      given_stands : (at row' : ℕ) {list' : List ℕ} → here.given + here.left < steps → list' ≡ set list here.given at
+      given_stands : (at : ℕ) (row' : Option ℕ) {list' : List ℕ} → here.given + here.left < steps → list' ≡ set list here.given at
           → standing list' (here_of at here.left (here.given + 1) here.depth row') ≡ giving (moved_to at (standing list here))
       unfolding standing giving moved_to
       given_stands at row' {list'} s e =
@@ -235,18 +235,18 @@ module _ (m : List ℕ) (n : ℕ) (bytes : List ℕ) where
 
       pub field_to : {r : Turn} {list' : List ℕ} {part : ℕ} → k ≡ Field → n ≤ row_limit → here.given + here.left < steps
           → FirstPart m n ((entry_at m row).depth + 1) (row + 1) part → list' ≡ set list here.given here.at
-          → r ≡ Ok (here_of here.at here.left (here.given + 1) here.depth part)
+          → r ≡ Ok (here_of here.at here.left (here.given + 1) here.depth (Some part))
           → Turned m n bytes frames list' (on_datum m n bytes frames list row here) (before here) r
       unfolding kind_datum parts_of moved_to standing
       field_to {r} {list'} {part} f y s p q g =
-          let next = here_of here.at here.left (here.given + 1) here.depth part in
+          let next = here_of here.at here.left (here.given + 1) here.depth (Some part) in
           let z = p.below in
           turned_on m n bytes list' g
-          (record { at_bound = b.at_bound; frames_size = b.frames_size; frames_room = b.frames_room; row_bound = omega arith })
+          (record { at_bound = b.at_bound; frames_size = b.frames_size; frames_room = b.frames_room })
           (given_listed s q)
-          (pending_row m n bytes list' frames next (omega arith)
+          (pending_row m n bytes list' frames next refl
           ∙ ap (λ (t : List Row). after m n bytes frames here.depth (going m n bytes (datum t) (standing list' next))) (parts_first m n _ _ part p)
-          ∙ ap (λ (h : Stand). after m n bytes frames here.depth (going m n bytes (datum (first (parts_at ((entry_at m row).depth + 1) (type_at m n (row + 1))))) h)) (given_stands here.at part s q)
+          ∙ ap (λ (h : Stand). after m n bytes frames here.depth (going m n bytes (datum (first (parts_at ((entry_at m row).depth + 1) (type_at m n (row + 1))))) h)) (given_stands here.at (Some part) s q)
           ∙ sym (datum_kind
           ∙ ap (λ (y : Kind). after m n bytes frames here.depth (kind_datum (rows_from m n 0) bytes (going m n bytes) y (row_at m row) (type_at m n (row + 1)) (standing list here))) f))
           (omega arith)
@@ -301,13 +301,13 @@ module _ (m : List ℕ) (n : ℕ) (bytes : List ℕ) where
                 ∙ after_stopped m n bytes frames here.depth OutOfRange here.at))
 
           module _ (z : part < n) where
-            pub enum_to : {r : Turn} → k ≡ Enum → r ≡ Ok (here_of to here.left here.given here.depth none)
+            pub enum_to : {r : Turn} → k ≡ Enum → r ≡ Ok (here_of to here.left here.given here.depth None)
                 → Turned m n bytes frames list (on_datum m n bytes frames list row here) (before here) r
             unfolding standing moved_to
             enum_to {r} f g =
-                let next = here_of to here.left here.given here.depth none in
+                let next = here_of to here.left here.given here.depth None in
                 turned_on m n bytes list g
-                (record { at_bound = q.within v to u; frames_size = b.frames_size; frames_room = b.frames_room; row_bound = omega arith })
+                (record { at_bound = q.within v to u; frames_size = b.frames_size; frames_room = b.frames_room })
                 (record { list_size = l.list_size; list_room = l.list_room })
                 (pending_none m n bytes list frames next refl
                 ∙ sym (enum_choice f ∙ ap (after m n bytes frames here.depth) (choosing_some _ _ _ _ u (sym y ∙ lt-ltb part n z))
@@ -316,54 +316,54 @@ module _ (m : List ℕ) (n : ℕ) (bytes : List ℕ) where
 
             pub union_to : {r : Turn} {list' : List ℕ} → k ≡ Union → n ≤ row_limit → here.given + here.left < steps
                 → type_at m n part ≡ get_or (parts_at ((entry_at m row).depth + 1) (type_at m n (row + 1))) v []
-                → list' ≡ set list here.given to → r ≡ Ok (here_of to here.left (here.given + 1) here.depth part)
+                → list' ≡ set list here.given to → r ≡ Ok (here_of to here.left (here.given + 1) here.depth (Some part))
                 → Turned m n bytes frames list' (on_datum m n bytes frames list row here) (before here) r
             union_to {r} {list'} f o s x e g =
-                let next = here_of to here.left (here.given + 1) here.depth part in
+                let next = here_of to here.left (here.given + 1) here.depth (Some part) in
                 turned_on m n bytes list' g
-                (record { at_bound = q.within v to u; frames_size = b.frames_size; frames_room = b.frames_room; row_bound = omega arith })
+                (record { at_bound = q.within v to u; frames_size = b.frames_size; frames_room = b.frames_room })
                 (given_listed s e)
-                (pending_row m n bytes list' frames next (omega arith)
+                (pending_row m n bytes list' frames next refl
                 ∙ ap (λ (t : List Row). after m n bytes frames here.depth (going m n bytes (datum t) (standing list' next))) x
-                ∙ ap (λ (h : Stand). after m n bytes frames here.depth (going m n bytes (datum (get_or (parts_at ((entry_at m row).depth + 1) (type_at m n (row + 1))) v [])) h)) (given_stands to part s e)
+                ∙ ap (λ (h : Stand). after m n bytes frames here.depth (going m n bytes (datum (get_or (parts_at ((entry_at m row).depth + 1) (type_at m n (row + 1))) v [])) h)) (given_stands to (Some part) s e)
                 ∙ sym (union_choice f ∙ ap (after m n bytes frames here.depth) (choosing_some _ _ _ _ u (sym y ∙ lt-ltb part n z))))
                 (omega arith)
 
   -- ---- a row that is to be visited
 
-  module _ (frames list : List ℕ) (here : Here) (b : Bounded bytes frames here) (l : Listed list here) (w : here.row < none) where
+  module _ (frames list : List ℕ) (here : Here) {row : ℕ} (b : Bounded bytes frames here) (l : Listed list here) (w : here.row ≡ Some row) where
     pub visit_spent : {r : Turn} → here.left ≡ 0 → r ≡ Err (fault_of TooManySteps here.at)
         → Turned m n bytes frames list (pending m n bytes frames list here) (to_do here) r
     unfolding standing
     visit_spent e g =
         turned_stop m n bytes list g
         (sym (pending_row m n bytes list frames here w
-        ∙ ap (after m n bytes frames here.depth) (visit_none (rows_from m n 0) bytes steps (datum (type_at m n here.row)) (standing list here) e)
+        ∙ ap (after m n bytes frames here.depth) (visit_none (rows_from m n 0) bytes steps (datum (type_at m n row)) (standing list here) e)
         ∙ after_stopped m n bytes frames here.depth TooManySteps here.at))
 
     module _ (z : here.left ≡ 0 → ⊥) where
-      row_step : on_datum m n bytes frames list here.row (here_of here.at (here.left - 1) here.given here.depth none) ≡ pending m n bytes frames list here
+      row_step : on_datum m n bytes frames list row (here_of here.at (here.left - 1) here.given here.depth None) ≡ pending m n bytes frames list here
       unfolding on_datum standing spent
       row_step =
           sym (pending_row m n bytes list frames here w
           ∙ ap (after m n bytes frames here.depth)
-          (visit_step (rows_from m n 0) bytes steps (datum (type_at m n here.row)) (standing list here) (omega arith) z))
+          (visit_step (rows_from m n 0) bytes steps (datum (type_at m n row)) (standing list here) (omega arith) z))
 
-      pub visit_nothing : {r : Turn} → n ≤ here.row → r ≡ Ok (here_of here.at (here.left - 1) here.given here.depth none)
+      pub visit_nothing : {r : Turn} → n ≤ row → r ≡ Ok (here_of here.at (here.left - 1) here.given here.depth None)
           → Turned m n bytes frames list (pending m n bytes frames list here) (to_do here) r
       unfolding on_datum one_item
       visit_nothing y g =
-          let next = here_of here.at (here.left - 1) here.given here.depth none in
+          let next = here_of here.at (here.left - 1) here.given here.depth None in
           turned_on m n bytes list g (step_bounded bytes frames here b) (step_listed list here l)
           (pending_none m n bytes list frames next refl
-          ∙ sym (ap (λ (t : List Row). after m n bytes frames here.depth (one_item (rows_from m n 0) bytes (going m n bytes) (datum t) (standing list next))) (rows_end m here.row n y)
+          ∙ sym (ap (λ (t : List Row). after m n bytes frames here.depth (one_item (rows_from m n 0) bytes (going m n bytes) (datum t) (standing list next))) (rows_end m row n y)
           ∙ after_went m n bytes frames here.depth (standing list next))
           ∙ row_step)
           (omega arith)
 
       pub visit_datum : {frames' list' : List ℕ} {r : Turn}
-          → Turned m n bytes frames' list' (on_datum m n bytes frames list here.row (here_of here.at (here.left - 1) here.given here.depth none))
-          (before (here_of here.at (here.left - 1) here.given here.depth none)) r
+          → Turned m n bytes frames' list' (on_datum m n bytes frames list row (here_of here.at (here.left - 1) here.given here.depth None))
+          (before (here_of here.at (here.left - 1) here.given here.depth None)) r
           → Turned m n bytes frames' list' (pending m n bytes frames list here) (to_do here) r
       visit_datum {frames'} {list'} t = turned_as m n bytes list' row_step (omega arith) t
 
@@ -394,7 +394,7 @@ stop_turn {m} {n} {bytes} {frames} {list} {o} {more} {r} {f} e t = told (subst (
 pub gave_stop : (list : List ℕ) {f : Fault} {o : Outcome} → stopped f.why f.at ≡ o → {r : Walked} → r ≡ Err f → Gave list o r
 gave_stop list {f} e g = rw g (subst (λ (x : Outcome). Gave list x (Err f)) e (refused {f = f}))
 
-pub gave_end : (m : List ℕ) (n : ℕ) (bytes list frames : List ℕ) (here : Here) {o : Outcome} → Listed list here → here.row ≡ none → here.depth ≡ 0
+pub gave_end : (m : List ℕ) (n : ℕ) (bytes list frames : List ℕ) (here : Here) {o : Outcome} → Listed list here → here.row ≡ None → here.depth ≡ 0
     → pending m n bytes frames list here ≡ o → Gave list o (Ok (here.at, here.given))
 unfolding standing
 gave_end m n bytes list frames here l w d p =
@@ -406,12 +406,11 @@ gave_end m n bytes list frames here l w d p =
     (gave {h = h} (let y = l.list_room in omega arith) (ap (λ (x : ℕ). take x list) s)))
 
 module _ (m : List ℕ) (n : ℕ) (bytes : List ℕ) (row : ℕ) (at : ℕ) where
-  pub starts : (frames list : List ℕ) → row < n → n ≤ row_limit
-      → pending m n bytes frames list (here_of at steps 0 0 row) ≡ walked (rows_from m n 0) bytes (type_at m n row) at
+  pub starts : (frames list : List ℕ) → pending m n bytes frames list (here_of at steps 0 0 (Some row)) ≡ walked (rows_from m n 0) bytes (type_at m n row) at
   unfolding after standing walked
-  starts frames list i l =
+  starts frames list =
       let h : Stand = record { at = at; left = steps; given = [] } in
-      pending_row m n bytes list frames (here_of at steps 0 0 row) (omega arith)
+      pending_row m n bytes list frames (here_of at steps 0 0 (Some row)) refl
       ∙ ap (λ (g : Stand → Outcome). and_then (going m n bytes (datum (type_at m n row)) h) g) (λ j k. outcome_end m n bytes frames 0 k refl j)
       ∙ then_went (going m n bytes (datum (type_at m n row)) h)
 
@@ -432,6 +431,3 @@ module _ {m : List ℕ} {n : ℕ} {bytes : List ℕ} {row at : ℕ} {frames list
   held_on e t f g a b =
       let o = on_turn e t in
       record { bounded = o.0; listed = o.1; whole = o.2 ∙ k.whole; defined = f; follows = g; found_size = a; next_size = b }
-
-  pub held_none : none ≤ here.row → here.row ≡ none
-  held_none z = let b = k.bounded.row_bound in omega arith

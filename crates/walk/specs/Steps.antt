@@ -1,6 +1,6 @@
 -- What the code holds on the way: types by the numbers of their rows in memory, two tables, and frames of what is still to come.
 -- Assumes nothing.
-use Rattle.std.specs.Prelude.{ℕ, zero, suc, ◌+◌, ◌-◌, ◌*◌, ◌/◌, ◌%◌, ◌≤◌, ◌<◌, ◌≡◌, Bool, not, cond, ◌||◌, List, [], ◌∷◌, Option, Some, None, Result, Ok, Err, eqb, ltb, length, get_or, set, take}
+use Rattle.std.specs.Prelude.{ℕ, zero, suc, ◌+◌, ◌-◌, ◌*◌, ◌%◌, ◌≤◌, ◌<◌, ◌≡◌, Bool, not, cond, ◌||◌, List, [], ◌∷◌, Option, Some, None, Result, Ok, Err, eqb, ltb, length, get_or, set, take}
 use Rattle.answer.specs.declared.refusal.Fault.{Fault}
 use Rattle.answer.specs.declared.refusal.Why.TheVariants.{CutShort, NumberWrong, OutOfRange, BlockSizeWrong}
 use Rattle.binary.specs.Numbers.{Number, long_at}
@@ -142,17 +142,13 @@ unfoldable pub frames_of : List ℕ → ℕ → List ℕ → ℕ → List Frame
 frames_of m n frames zero = []
 frames_of m n frames (suc d) = frame_of m n (get_or frames (3 * d) 0) (get_or frames (3 * d + 1) 0) (get_or frames (3 * d + 2) 0) ∷ frames_of m n frames d
 
--- no row is to be visited now
-abbrev pub none : ℕ
-none = row_limit + 1
-
 -- frame d becomes these three numbers
 unfoldable pub pushed : List ℕ → ℕ → ℕ → ℕ → ℕ → List ℕ
 pushed frames d row left size = set (set (set frames (3 * d) row) (3 * d + 1) left) (3 * d + 2) size
 
 -- ---- turns
 
-abbrev pub here_of : ℕ → ℕ → ℕ → ℕ → ℕ → Here
+abbrev pub here_of : ℕ → ℕ → ℕ → ℕ → Option ℕ → Here
 here_of at left given depth row = record { at = at; left = left; given = given; depth = depth; row = row }
 
 unfoldable pub standing : List ℕ → Here → Stand
@@ -170,28 +166,32 @@ outcome m n bytes frames depth h = run bytes (going m n bytes) (frames_of m n fr
 unfoldable pub after : List ℕ → ℕ → List ℕ → List ℕ → ℕ → Outcome → Outcome
 after m n bytes frames depth o = and_then o (λ k. outcome m n bytes frames depth k)
 
--- what comes of all that is still to come: the row that is to be visited now, if there is one, and the frames
+-- what comes of a row that is to be visited now, if there is one, and then of them
+unfoldable pub from_row : List ℕ → ℕ → List ℕ → List ℕ → ℕ → Option ℕ → Stand → Outcome
+from_row m n bytes frames depth None h = outcome m n bytes frames depth h
+from_row m n bytes frames depth (Some row) h = after m n bytes frames depth (going m n bytes (datum (type_at m n row)) h)
+
+-- what comes of all that is still to come
 unfoldable pub pending : List ℕ → ℕ → List ℕ → List ℕ → List ℕ → Here → Outcome
-pending m n bytes frames list here =
-    let h = standing list here in
-    let visited = after m n bytes frames here.depth (going m n bytes (datum (type_at m n here.row)) h) in
-    let resumed = outcome m n bytes frames here.depth h in
-    pick (ltb here.row none) visited resumed
+pending m n bytes frames list here = from_row m n bytes frames here.depth here.row (standing list here)
 
 -- the numbers of a walk keep their bounds: a frame and an offset cost a step each
 pub record Bounded (bytes frames : List ℕ) (here : Here) : Type 0 where
   pub at_bound : here.at ≤ length bytes
   pub frames_size : length frames ≡ 3 * steps
   pub frames_room : here.depth + here.left ≤ steps
-  pub row_bound : here.row ≤ none
 
 pub record Listed (list : List ℕ) (here : Here) : Type 0 where
   pub list_size : length list ≡ steps + 1
   pub list_room : here.given + here.left ≤ steps
 
 -- each turn takes a step, pops a frame or gives a row to visit
+abbrev pub rowless : Option ℕ → ℕ
+rowless None = 1
+rowless (Some row) = 0
+
 abbrev pub to_do : Here → ℕ
-to_do here = 4 * here.left + (2 * here.depth + here.row / none)
+to_do here = 4 * here.left + (2 * here.depth + rowless here.row)
 
 -- a turn of the walk: on, or what stops it
 abbrev pub Turn : Type 0

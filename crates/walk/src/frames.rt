@@ -1,9 +1,9 @@
 // Frames of what is still to come, three numbers each: a row, the entries of a block that are left, where the block's size stands. The row says which it is,
 // 1,024 more in a record's frame: so it has its bound whatever stands there, where an enum's rows would need a promise about all frames.
-ghost use Rattle.std.specs.Prelude.{◌≡◌, List, ℕ, ◌+◌, ◌-◌, ◌*◌, ◌<◌, ◌≤◌, length, get_or};
+ghost use Rattle.std.specs.Prelude.{◌≡◌, List, None, ℕ, ◌+◌, ◌-◌, ◌*◌, ◌<◌, ◌≤◌, length, get_or};
 ghost use Rattle.row.specs.Layout.{row_limit, layout_length};
 ghost use Rattle.walk.specs.Walk.{steps, key};
-ghost use Rattle.walk.specs.Steps.{type_at, Follows, Reads, is_right, none, pushed, here_of, pending, Bounded, Listed, to_do, before, Turned, on_blocks, on_block};
+ghost use Rattle.walk.specs.Steps.{type_at, Follows, Reads, is_right, pushed, here_of, pending, Bounded, Listed, to_do, before, Turned, on_blocks, on_block};
 
 use crate::leaves::{counted, fault, is_size, number};
 use crate::rows::{inside, is_map};
@@ -13,14 +13,14 @@ use answer::{Counts, Fault, Why};
 use binary::{absolute, is_negative, long_at};
 
 // At another offset, with another row to visit.
-pub(crate) fn moved(here: Here, at: usize, row: usize) -> Here
+pub(crate) fn moved(here: Here, at: usize, row: Option<usize>) -> Here
     ensures { result ≡ here_of at here.left here.given here.depth row }
 {
     Here { at, row, ..here }
 }
 
 // With one frame more, and another row to visit.
-pub(crate) fn deeper(here: Here, row: usize) -> Here
+pub(crate) fn deeper(here: Here, row: Option<usize>) -> Here
     requires { here.depth < steps }
     ensures { result ≡ here_of here.at here.left here.given (here.depth + 1) row }
 {
@@ -33,11 +33,11 @@ pub(crate) fn deeper(here: Here, row: usize) -> Here
 
 // With no row to visit, and so many frames.
 fn popped(here: Here, depth: usize) -> Here
-    ensures { result ≡ here_of here.at here.left here.given depth none }
+    ensures { result ≡ here_of here.at here.left here.given depth None }
 {
     Here {
         depth,
-        row: Here::NONE,
+        row: None,
         ..here
     }
 }
@@ -63,11 +63,11 @@ fn block(bytes: &[u8], frames: &mut [usize], row: usize, v: u64, here: Here) -> 
     let count = absolute(v) as usize;
     if !is_negative(v) {
         push(frames, here.depth, row, count, 0);
-        return Ok(deeper(here, Here::NONE));
+        return Ok(deeper(here, None));
     }
     let (_, to) = number(long_at(bytes, at), bytes, at)?;
     push(frames, here.depth, row, count, at);
-    Ok(deeper(moved(here, to, Here::NONE), Here::NONE))
+    Ok(deeper(moved(here, to, None), None))
 }
 
 // The header of a block of the array or map at a row, which takes a step: its entries are pushed, or there is no block more.
@@ -77,7 +77,7 @@ pub(crate) fn header(
     row: usize,
     here: Here,
 ) -> Result<Here, Fault>
-    requires { (row < row_limit) × (here.row ≡ none) × Bounded bytes.now frames.old here }
+    requires { (row < row_limit) × (here.row ≡ None) × Bounded bytes.now frames.old here }
     ensures { (m : List ℕ) (n : ℕ) (list : List ℕ) → Listed list here
         → Turned m n bytes.now frames.new list (on_blocks m n bytes.now frames.old list row here) (to_do here) result }
 {
@@ -89,7 +89,7 @@ pub(crate) fn header(
     let next = Here {
         at: to,
         left: here.left - 1,
-        row: Here::NONE,
+        row: None,
         ..here
     };
     if v == 0 {
@@ -107,7 +107,7 @@ fn resume_parts(
     frames: &mut [usize],
     here: Here,
 ) -> Result<Here, Fault>
-    requires { (length mem.now ≡ layout_length) × (n ≤ row_limit) × Follows mem.now n next.old × (0 < here.depth) × (here.row ≡ none)
+    requires { (length mem.now ≡ layout_length) × (n ≤ row_limit) × Follows mem.now n next.old × (0 < here.depth) × (here.row ≡ None)
         × Bounded bytes.now frames.old here × (row_limit ≤ get_or frames.old (3 * (here.depth - 1)) 0) }
     ensures { ((list : List ℕ) → Listed list here
         → Turned mem.now n bytes.now frames.new list (pending mem.now n bytes.now frames.old list here) (to_do here) result)
@@ -119,7 +119,7 @@ fn resume_parts(
         return Ok(popped(here, top));
     }
     frames[3 * top] = Counts::ROWS + part;
-    Ok(moved(here, here.at, part))
+    Ok(moved(here, here.at, Some(part)))
 }
 
 // Has a block that ends here no size, or the right one?
@@ -131,7 +131,7 @@ fn is_right(bytes: &[u8], size: usize, to: usize) -> bool
 
 // The last frame is of a block that has no entry left: its size, if it has one, is right, and a header comes.
 fn end_block(bytes: &[u8], frames: &mut [usize], row: usize, here: Here) -> Result<Here, Fault>
-    requires { (row < row_limit) × (0 < here.depth) × (here.row ≡ none) × Bounded bytes.now frames.old here
+    requires { (row < row_limit) × (0 < here.depth) × (here.row ≡ None) × Bounded bytes.now frames.old here
         × (row ≡ get_or frames.old (3 * (here.depth - 1)) 0) × (get_or frames.old (3 * (here.depth - 1) + 1) 0 ≡ 0) }
     ensures { (m : List ℕ) (n : ℕ) (list : List ℕ) → Listed list here
         → Turned m n bytes.now frames.new list (pending m n bytes.now frames.old list here) (to_do here) result }
@@ -165,7 +165,7 @@ fn resume_entry(
     row: usize,
     here: Here,
 ) -> Result<Here, Fault>
-    requires { (length mem.now ≡ layout_length) × (n ≤ row_limit) × (row < row_limit) × (0 < here.depth) × (here.row ≡ none) × Bounded bytes.now frames.old here
+    requires { (length mem.now ≡ layout_length) × (n ≤ row_limit) × (row < row_limit) × (0 < here.depth) × (here.row ≡ None) × Bounded bytes.now frames.old here
         × (row ≡ get_or frames.old (3 * (here.depth - 1)) 0) × (0 < get_or frames.old (3 * (here.depth - 1) + 1) 0) }
     ensures { (list : List ℕ) → Listed list here
         → Turned mem.now n bytes.now frames.new list (pending mem.now n bytes.now frames.old list here) (to_do here) result }
@@ -173,7 +173,7 @@ fn resume_entry(
     let top = here.depth - 1;
     frames[3 * top + 1] -= 1;
     let to = key(mem, n, bytes, row, here.at)?;
-    Ok(moved(here, to, inside(mem, n, row)))
+    Ok(moved(here, to, Some(inside(mem, n, row))))
 }
 
 // No row is to be visited now: the last frame says what comes.
@@ -185,7 +185,7 @@ pub(crate) fn resume(
     frames: &mut [usize],
     here: Here,
 ) -> Result<Here, Fault>
-    requires { (length mem.now ≡ layout_length) × (n ≤ row_limit) × Follows mem.now n next.old × (0 < here.depth) × (here.row ≡ none)
+    requires { (length mem.now ≡ layout_length) × (n ≤ row_limit) × Follows mem.now n next.old × (0 < here.depth) × (here.row ≡ None)
         × Bounded bytes.now frames.old here }
     ensures { ((list : List ℕ) → Listed list here
         → Turned mem.now n bytes.now frames.new list (pending mem.now n bytes.now frames.old list here) (to_do here) result)

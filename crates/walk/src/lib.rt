@@ -48,11 +48,12 @@ pub fn walk(
         left: STEPS,
         given: 0,
         depth: 0,
-        row,
+        row: Some(row),
     };
+    // Tried: `?` at both calls; a walk of 335 records took 36 microseconds for 34.
     loop {
-        here = if here.row < Here::NONE {
-            visit(
+        match here.row {
+            Some(row) => match visit(
                 mem,
                 n,
                 bytes,
@@ -60,12 +61,17 @@ pub fn walk(
                 &mut next,
                 &mut frames,
                 list,
+                row,
                 here,
-            )?
-        } else if here.depth == 0 {
-            return Ok((here.at, here.given));
-        } else {
-            resume(mem, n, bytes, &mut next, &mut frames, here)?
-        };
+            ) {
+                Ok(h) => here = h,
+                Err(f) => return Err(f),
+            },
+            None if here.depth == 0 => return Ok((here.at, here.given)),
+            None => match resume(mem, n, bytes, &mut next, &mut frames, here) {
+                Ok(h) => here = h,
+                Err(f) => return Err(f),
+            },
+        }
     }
 }

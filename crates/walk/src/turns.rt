@@ -1,10 +1,10 @@
 // A row is visited: its step is taken, and what its datum is by its kind.
-ghost use Rattle.std.specs.Prelude.{◌≡◌, true, List, ℕ, ◌+◌, ◌-◌, ◌*◌, ◌<◌, ◌≤◌, length, set};
+ghost use Rattle.std.specs.Prelude.{◌≡◌, true, List, Some, None, ℕ, ◌+◌, ◌-◌, ◌*◌, ◌<◌, ◌≤◌, length, set};
 ghost use Rattle.row.specs.Layout.{row_limit, layout_length};
 ghost use Rattle.row.specs.Memory.{entry_at};
 ghost use Rattle.row.specs.declared.kind.Kind.TheVariants.{Record, Field, Union, Enum};
 ghost use Rattle.walk.specs.Walk.{steps};
-ghost use Rattle.walk.specs.Steps.{is_leaf, Found, Follows, none, here_of, pending, Bounded, Listed, to_do, before, Turned, on_datum};
+ghost use Rattle.walk.specs.Steps.{is_leaf, Found, Follows, here_of, pending, Bounded, Listed, to_do, before, Turned, on_datum};
 
 use crate::frames::{deeper, header, moved, push};
 use crate::leaves::{choice, fault, leaf};
@@ -23,7 +23,7 @@ fn plain(bytes: &[u8], kind: Kind, size: u64, here: Here) -> Result<Here, Fault>
         → Turned m n bytes.now frames list (on_datum m n bytes.now frames list row here) (before here) result }
 {
     let to = leaf(bytes, kind, size, here.at)?;
-    Ok(moved(here, to, Here::NONE))
+    Ok(moved(here, to, None))
 }
 
 // A record: its first part is to be visited, and a frame keeps the place.
@@ -35,7 +35,7 @@ fn record_at(
     row: usize,
     here: Here,
 ) -> Result<Here, Fault>
-    requires { (length mem.now ≡ layout_length) × (n ≤ row_limit) × (row < n) × ((entry_at mem.now row).kind ≡ Record) × (here.depth + here.left < steps) × (here.row ≡ none)
+    requires { (length mem.now ≡ layout_length) × (n ≤ row_limit) × (row < n) × ((entry_at mem.now row).kind ≡ Record) × (here.depth + here.left < steps) × (here.row ≡ None)
         × Bounded bytes.now frames.old here }
     ensures { (list : List ℕ) → Listed list here
         → Turned mem.now n bytes.now frames.new list (on_datum mem.now n bytes.now frames.old list row here) (before here) result }
@@ -45,13 +45,13 @@ fn record_at(
         return Ok(here);
     }
     push(frames, here.depth, Counts::ROWS + part, 0, 0);
-    Ok(deeper(here, part))
+    Ok(deeper(here, Some(part)))
 }
 
 // The offset where the walk stands is given, and another row is to be visited.
 fn given(list: &mut [usize], here: Here, at: usize, row: usize) -> Here
     requires { (here.given < steps) × (length list.old ≡ steps + 1) }
-    ensures { (result ≡ here_of at here.left (here.given + 1) here.depth row)
+    ensures { (result ≡ here_of at here.left (here.given + 1) here.depth (Some row))
         × (list.new ≡ set list.old here.given at) }
 {
     let i = here.given;
@@ -59,7 +59,7 @@ fn given(list: &mut [usize], here: Here, at: usize, row: usize) -> Here
     Here {
         at,
         given: here.given + 1,
-        row,
+        row: Some(row),
         ..here
     }
 }
@@ -107,7 +107,7 @@ fn symbol(
     if n <= part_number(mem, n, next, row, v) {
         return Err(fault(Why::OutOfRange, here.at));
     }
-    Ok(moved(here, to, Here::NONE))
+    Ok(moved(here, to, None))
 }
 
 // What the datum at a row is, once its step is taken.
@@ -123,14 +123,14 @@ fn datum(
     here: Here,
 ) -> Result<Here, Fault>
     requires { (length mem.now ≡ layout_length) × (n ≤ row_limit) × (row < n) × Found mem.now n found.old × Follows mem.now n next.old
-        × (here.row ≡ none) × (here.depth + here.left < steps) × (here.given + here.left < steps) × Bounded bytes.now frames.old here × Listed list.old here }
+        × (here.row ≡ None) × (here.depth + here.left < steps) × (here.given + here.left < steps) × Bounded bytes.now frames.old here × Listed list.old here }
     ensures { Turned mem.now n bytes.now frames.new list.new
         (on_datum mem.now n bytes.now frames.old list.old row here) (before here) result
         × Found mem.now n found.new × Follows mem.now n next.new }
 {
     let kind = kind_at(mem, row);
     match kind {
-        Kind::Reference => Ok(moved(here, here.at, definition(mem, n, found, row))),
+        Kind::Reference => Ok(moved(here, here.at, Some(definition(mem, n, found, row)))),
         Kind::Record => record_at(mem, n, bytes, frames, row, here),
         Kind::Field => Ok(given(list, here, here.at, first_part(mem, n, row))),
         Kind::Union => branch(mem, n, bytes, next, list, row, here),
@@ -149,10 +149,11 @@ pub(crate) fn visit(
     next: &mut [Option<u16>],
     frames: &mut [usize],
     list: &mut [usize],
+    row: usize,
     here: Here,
 ) -> Result<Here, Fault>
     requires { (length mem.now ≡ layout_length) × (n ≤ row_limit) × Found mem.now n found.old × Follows mem.now n next.old
-        × (here.row < none) × Bounded bytes.now frames.old here × Listed list.old here }
+        × (here.row ≡ Some row) × Bounded bytes.now frames.old here × Listed list.old here }
     ensures { Turned mem.now n bytes.now frames.new list.new
         (pending mem.now n bytes.now frames.old list.old here) (to_do here) result
         × Found mem.now n found.new × Follows mem.now n next.new }
@@ -162,11 +163,11 @@ pub(crate) fn visit(
     }
     let step = Here {
         left: here.left - 1,
-        row: Here::NONE,
+        row: None,
         ..here
     };
-    if n <= here.row {
+    if n <= row {
         return Ok(step);
     }
-    datum(mem, n, bytes, found, next, frames, list, here.row, step)
+    datum(mem, n, bytes, found, next, frames, list, row, step)
 }
