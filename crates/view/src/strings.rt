@@ -20,28 +20,16 @@ pub struct Cursor {
     pub passed: usize,
 }
 
+#[tactic(auto, unfolding(crate::specs::Strings::hex_of))]
 fn hex(b: u8) -> u32
     ensures { (result ≡ hex_of b) × (result < 16) }
 {
-    if b < b'0' {
-        return 0;
+    match b {
+        b'0'..=b'9' => u32::from(b - 48),
+        b'A'..=b'F' => u32::from(b - 55),
+        b'a'..=b'f' => u32::from(b - 87),
+        _ => 0,
     }
-    if b <= b'9' {
-        return (b - 48) as u32;
-    }
-    if b < b'A' {
-        return 0;
-    }
-    if b <= b'F' {
-        return (b - 55) as u32;
-    }
-    if b < b'a' {
-        return 0;
-    }
-    if b <= b'f' {
-        return (b - 87) as u32;
-    }
-    0
 }
 
 // The number of four hexadecimal digits.
@@ -100,35 +88,26 @@ fn utf8(code: u32, next: usize) -> Piece
 }
 
 // What a letter after a backslash stands for.
+#[tactic(auto, unfolding(crate::specs::Strings::short_of))]
 fn short(b: u8) -> u8
     ensures { result ≡ short_of b }
 {
-    if b == b'b' {
-        return 8;
+    match b {
+        b'b' => 8,
+        b'f' => 12,
+        b'n' => b'\n',
+        b'r' => b'\r',
+        b't' => b'\t',
+        _ => b,
     }
-    if b == b'f' {
-        return 12;
-    }
-    if b == b'n' {
-        return 10;
-    }
-    if b == b'r' {
-        return 13;
-    }
-    if b == b't' {
-        return 9;
-    }
-    b
 }
 
 // Does a string end at this byte? On scanned text at the closing quote alone.
+#[tactic(auto, unfolding(crate::specs::Strings::is_stop))]
 pub fn is_stop(b: u8) -> bool
     ensures { result ≡ is_stop b }
 {
-    if b == b'"' {
-        return true;
-    }
-    b < 32
+    b == b'"' || b < 32
 }
 
 // The escape whose backslash is at `at`.
@@ -220,22 +199,16 @@ pub(crate) fn plain_end(text: &[u8], at: usize) -> usize
     requires { at ≤ length text.now }
     ensures { Plainly text.now at result }
 {
-    let mut p = at;
-    while p < text.len() {
+    for p in at..text.len() {
         let b = text[p];
         if b > b'\\' {
-            p += 1;
             continue;
         }
-        if b == b'\\' {
+        if b == b'\\' || is_stop(b) {
             return p;
         }
-        if is_stop(b) {
-            return p;
-        }
-        p += 1;
     }
-    p
+    text.len()
 }
 
 fn spelled_length(text: &[u8], at: usize) -> usize

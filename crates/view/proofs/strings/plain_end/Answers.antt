@@ -1,6 +1,10 @@
 -- `view::strings::plain_end` meets its contract: a run of bytes that stand for themselves.
 -- Assumes nothing.
-use mathlib.Core.Path.{sym, ◌∙◌}
+use mathlib.Core.Path.{◌≡◌, sym, subst, ◌∙◌}
+use Prim.Native.Nat.{ℕ}
+use native.Mathlib.Omega.{arith}
+use lib.ListN.{length}
+use Rattle.view.specs.Strings.{Plainly}
 use Rattle.view.proofs.Plain.{run_none, run_letter, run_turn}
 use borrow.Author.Rules.{rules}
 use Rattle.view.proofs.strings.plain_end.Goals as goal
@@ -11,14 +15,12 @@ loop-p-init c = run_none _ _ (search rules)
 pub loop-p-preserved-then-b-gt92 : goal.loop-p-preserved-then-b-gt92
 loop-p-preserved-then-b-gt92 c = run_letter _ _ _ c.loop-p.invariant c.loop-p-test.true c.if-b-gt92.true
 
-pub returns-then-b-eq92 : goal.returns-then-b-eq92
-returns-then-b-eq92 c = c.loop-p.invariant
-
-pub returns-then-is_stop : goal.returns-then-is_stop
-returns-then-is_stop c = c.loop-p.invariant
-
 pub loop-p-preserved : goal.loop-p-preserved
 loop-p-preserved c = run_turn _ _ _ c.loop-p.invariant c.loop-p-test.true c.if-b-eq92.false (sym c.is_stop.ensures ∙ c.if-is_stop.false)
 
 pub returns : goal.returns
-returns c = c.loop-p.invariant
+returns c =
+    let i = c.loop-p.invariant in
+    let a = i.within in
+    let e : c.loop-p.p ≡ length c.args.text.now = omega arith in
+    subst (λ (q : ℕ). Plainly c.args.text.now c.args.at q) e i
