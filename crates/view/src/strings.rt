@@ -215,6 +215,7 @@ fn spelled_length(text: &[u8], at: usize) -> usize
     ensures { result ≡ length (string_at text.now at) }
 {
     let mut c = opening(text, at);
+    // Where the next byte stands is told by the one before it, so no range fits.
     let mut n: usize = 0;
     while let Some((_, next)) = next_byte(text, c) {
         n += 1;
@@ -242,6 +243,7 @@ fn has_length(text: &[u8], at: usize, n: usize) -> bool
     ensures { result ≡ eqb (length (string_at text.now at)) n }
 {
     let mut c = opening(text, at);
+    // Where the next byte stands is told by the one before it, so no range fits.
     let mut more = n;
     while let Some((_, next)) = next_byte(text, c) {
         if more == 0 {
@@ -261,12 +263,13 @@ pub(crate) fn read_is(text: &[u8], at: usize, word: &[u8]) -> bool
         return false;
     }
     let mut c = opening(text, at);
-    let mut i: usize = 0;
-    while let Some((b, next)) = next_byte(text, c) {
-        if word[i] != b {
+    for x in word {
+        let Some((b, next)) = next_byte(text, c) else {
+            return false;
+        };
+        if *x != b {
             return false;
         }
-        i += 1;
         c = next;
     }
     true
@@ -286,6 +289,7 @@ pub(crate) fn read_copy(text: &[u8], at: usize, out: &mut [u8]) -> usize
     ensures { (result ≡ length (string_at text.now at)) × (out.new ≡ store out.old 0 (string_at text.now at)) }
 {
     let mut c = opening(text, at);
+    // Where the next byte stands is told by the one before it, so no range fits.
     let mut i: usize = 0;
     while let Some((b, next)) = next_byte(text, c) {
         put(out, i, b);

@@ -1,7 +1,5 @@
 -- `view::strings::plain_end` meets its contract: a run of bytes that stand for themselves.
 -- Assumes nothing.
-use Prim.Native.Nat.{◌-◌}
-use lib.ListN.{length}
 use Rattle.view.specs.Strings.{Plainly}
 use Rattle.view.proofs.strings.plain_end.Given as goal
 
