@@ -199,16 +199,20 @@ pub(crate) fn plain_end(text: &[u8], at: usize) -> usize
     requires { at ≤ length text.now }
     ensures { Plainly text.now at result }
 {
-    for p in at..text.len() {
+    // A `for` over the places was tried: the table of a declaration took two fifths longer to fill.
+    let mut p = at;
+    while p < text.len() {
         let b = text[p];
         if b > b'\\' {
+            p += 1;
             continue;
         }
         if b == b'\\' || is_stop(b) {
             return p;
         }
+        p += 1;
     }
-    text.len()
+    p
 }
 
 fn spelled_length(text: &[u8], at: usize) -> usize

@@ -1,10 +1,6 @@
 -- `view::strings::plain_end` meets its contract: a run of bytes that stand for themselves.
 -- Assumes nothing.
-use mathlib.Core.Path.{◌≡◌, sym, subst, ◌∙◌}
-use Prim.Native.Nat.{ℕ}
-use native.Mathlib.Omega.{arith}
-use lib.ListN.{length}
-use Rattle.view.specs.Strings.{Plainly}
+use mathlib.Core.Path.{sym, ◌∙◌}
 use Rattle.view.proofs.Plain.{run_none, run_letter, run_turn}
 use borrow.Author.Rules.{rules}
 use Rattle.view.proofs.strings.plain_end.Goals as goal
@@ -19,8 +15,4 @@ pub loop-p-preserved : goal.loop-p-preserved
 loop-p-preserved c = run_turn _ _ _ c.loop-p.invariant c.loop-p-test.true c.if-b-eq92.false (sym c.is_stop.ensures ∙ c.if-is_stop.false)
 
 pub returns : goal.returns
-returns c =
-    let i = c.loop-p.invariant in
-    let a = i.within in
-    let e : c.loop-p.p ≡ length c.args.text.now = omega arith in
-    subst (λ (q : ℕ). Plainly c.args.text.now c.args.at q) e i
+returns c = c.loop-p.invariant
