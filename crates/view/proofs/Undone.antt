@@ -1,7 +1,7 @@
 -- Laws of the bytes of a string, and turns of the loops over them.
 -- Assumes nothing.
 use mathlib.Core.Path.{◌≡◌, refl, sym, ap, ◌∙◌, subst}
-use mathlib.Core.Bool.{Bool, true, false, cond, not}
+use mathlib.Core.Bool.{Bool, true, false, cond}
 use mathlib.Core.List.{List, [], ◌∷◌, ◌++◌}
 use Prim.Native.Nat.{ℕ, zero, suc, ◌+◌, ◌-◌, ◌*◌, ◌/◌, ◌%◌, ◌<◌, ◌≤◌}
 use native.Mathlib.Numerals.{add-one}
@@ -10,7 +10,7 @@ use native.Mathlib.Decide.{dec_lt, dec_le}
 use lib.Dec.{eqb, ltb, leb}
 use lib.ListN.{length, get_or, take, drop, set, drop_of_length-le, length-take, length-append}
 use lib.Seq.{drop-cons, drop-nil, get_or-take, drop-append-le, drop-append_seam}
-use borrow.Author.Tests.{eq-eqb, ne_eqb, ltb-false, leb-true, eqb-true, eqb-false, not-true, not-false}
+use borrow.Author.Tests.{eq-eqb, ne_eqb, ltb-false, leb-true, eqb-true, eqb-false}
 use Rattle.ground.specs.Bytes.{byte_at, same, store}
 use Rattle.ground.proofs.Laws.{byte_past, store_cons, same_unlike}
 use Rattle.view.specs.declared.strings.Piece.{Piece}
@@ -365,17 +365,24 @@ module _ (s n more left : ℕ) (inv : n + left ≡ s + more) where
 
 -- ---- lengths first
 module _ (a b : List ℕ) {r : Bool} (e : r ≡ eqb (length a) (length b)) where
-  pub lengths_differ : not r ≡ true → false ≡ same a b
-  lengths_differ h = sym (same_unlike a b (eqb-false (length a) (length b) (sym e ∙ not-true r h)))
+  pub lengths_differ : r ≡ false → false ≡ same a b
+  lengths_differ h = sym (same_unlike a b (eqb-false (length a) (length b) (sym e ∙ h)))
 
-  pub lengths_agree : not r ≡ false → length a ≡ length b
-  lengths_agree h = eqb-true (length a) (length b) (sym e ∙ not-false r h)
+  pub lengths_agree : r ≡ true → length a ≡ length b
+  lengths_agree h = eqb-true (length a) (length b) (sym e ∙ h)
+
+none_left : (l : List ℕ) → 0 ≡ length l → l ≡ []
+none_left [] e = refl
+none_left (b ∷ l) e = absurd (omega arith)
 
 -- ---- a string against a word
 module _ (w l : List ℕ) (i : ℕ) {x : Bool} (inv : same l (drop i w) ≡ x) where
-  pub word_end : length w ≤ i → l ≡ [] → true ≡ x
+  pub word_end : length w ≤ i → length w ≡ i + length l → true ≡ x
   unfolding same
-  word_end h e = rw (drop_of_length-le w h, e) at inv
+  word_end h e = rw (drop_of_length-le w h, none_left l (omega arith)) at inv
+
+  pub word_short : i < length w → length w ≡ i + length l → l ≡ [] → false ≡ x
+  word_short h e f = let z = ap length f in absurd (omega arith)
 
   module _ {b : ℕ} {k : List ℕ} (e : l ≡ b ∷ k) (h : i < length w) where
     pub word_differ : (get_or w i 0 ≡ b → ⊥) → false ≡ x
@@ -387,10 +394,6 @@ module _ (w l : List ℕ) (i : ℕ) {x : Bool} (inv : same l (drop i w) ≡ x) w
     word_turn f = rw (drop-cons w i 0 h, e, eq-eqb b (get_or w i 0) (sym f), ← add-one) at inv
 
 -- ---- two strings
-none_left : (l : List ℕ) → 0 ≡ length l → l ≡ []
-none_left [] e = refl
-none_left (b ∷ l) e = absurd (omega arith)
-
 module _ (l m : List ℕ) {x : Bool} (inv : same l m ≡ x) where
   pub both_end : length l ≡ length m → l ≡ [] → true ≡ x
   unfolding same

@@ -21,10 +21,11 @@ pub fn is_space(b: u8) -> bool
 pub fn is_digit(b: u8) -> bool
     ensures { result ≡ is_digit b }
 {
-    if b'0' <= b { b <= b'9' } else { false }
+    b.is_ascii_digit()
 }
 
-// What may stand behind a number or a word.
+// What may stand behind a number or a word. In both `||` was tried: the end of a long word took two thirds longer to find.
+#[tactic(auto, unfolding(crate::specs::Ends::is_delimiter))]
 pub fn is_delimiter(b: u8) -> bool
     ensures { result ≡ is_delimiter b }
 {

@@ -7,12 +7,6 @@ ghost use Rattle.view.specs.Strings.{string_at};
 use super::literals::literal;
 use super::strings::{next_byte, opening};
 
-fn wide(b: u8) -> u64
-    ensures { (result ≡ b) × (result < 256) }
-{
-    b as u64
-}
-
 // What a mark begins with.
 const START: u64 = 1442695040888963407;
 
@@ -25,6 +19,7 @@ pub struct Marking {
 }
 
 // The mark with the number of some bytes behind it.
+#[tactic(auto, unfolding(crate::specs::Marks::mark_step))]
 fn more(h: u64, w: u64) -> u64
     requires { w < 67108864 }
     ensures { result ≡ mark_step h w }
@@ -37,9 +32,9 @@ fn three(s: &[u8], i: usize) -> u64
     requires { i + 2 < length s.now }
     ensures { (result ≡ get_or s.now i 0 + 256 * get_or s.now (i + 1) 0 + 65536 * get_or s.now (i + 2) 0) × (result < 16777216) }
 {
-    let a = wide(s[i]);
-    let b = wide(s[i + 1]);
-    let c = wide(s[i + 2]);
+    let a = u64::from(s[i]);
+    let b = u64::from(s[i + 1]);
+    let c = u64::from(s[i + 2]);
     a + 256 * b + 65536 * c
 }
 
@@ -52,11 +47,11 @@ fn last(h: u64, s: &[u8], i: usize) -> u64
     if left == 0 {
         return more(h, 0);
     }
-    let a = wide(s[i]);
+    let a = u64::from(s[i]);
     if left == 1 {
         return more(h, a + 16777216);
     }
-    let b = wide(s[i + 1]);
+    let b = u64::from(s[i + 1]);
     more(h, a + 256 * b + 33554432)
 }
 
@@ -65,12 +60,11 @@ pub fn mark_of(s: &[u8]) -> u64
     ensures { result ≡ mark_of s.now }
 {
     let mut h: u64 = START;
-    let mut i: usize = 0;
-    while 2 < s.len() - i {
-        h = more(h, three(s, i));
-        i += 3;
+    let turns = s.len() / 3;
+    for i in 0..turns {
+        h = more(h, three(s, 3 * i));
     }
-    last(h, s, i)
+    last(h, s, 3 * turns)
 }
 
 // One byte more.
@@ -78,26 +72,19 @@ fn with_byte(m: Marking, b: u8) -> Marking
     requires { Held m }
     ensures { (result ≡ marked m b) × Held result }
 {
-    let h = m.h;
-    let w = m.w;
-    if m.n == 0 {
-        return Marking {
-            h,
-            w: wide(b),
-            n: 1,
-        };
-    }
-    if m.n == 1 {
-        return Marking {
-            h,
-            w: w + 256 * wide(b),
+    let x = u64::from(b);
+    match m.n {
+        0 => Marking { w: x, n: 1, ..m },
+        1 => Marking {
+            w: m.w + 256 * x,
             n: 2,
-        };
-    }
-    Marking {
-        h: more(h, w + 65536 * wide(b)),
-        w: 0,
-        n: 0,
+            ..m
+        },
+        _ => Marking {
+            h: more(m.h, m.w + 65536 * x),
+            w: 0,
+            n: 0,
+        },
     }
 }
 

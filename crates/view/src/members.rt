@@ -155,38 +155,19 @@ fn number_s(key: &[u8]) -> usize
 fn number_of(key: &[u8]) -> usize
     ensures { result ≡ key_number key.now }
 {
-    let b = byte_at(key, 0);
-    if b == b't' {
-        return number_if(key, b"type", Members::TYPE);
+    match byte_at(key, 0) {
+        b't' => number_if(key, b"type", Members::TYPE),
+        b'n' => number_n(key),
+        b's' => number_s(key),
+        b'a' => number_if(key, b"aliases", Members::ALIASES),
+        b'f' => number_if(key, b"fields", Members::FIELDS),
+        b'd' => number_if(key, b"default", Members::DEFAULT),
+        b'i' => number_if(key, b"items", Members::ITEMS),
+        b'v' => number_if(key, b"values", Members::VALUES),
+        b'l' => number_if(key, b"logicalType", Members::LOGICAL_TYPE),
+        b'p' => number_if(key, b"precision", Members::PRECISION),
+        _ => Members::OTHER,
     }
-    if b == b'n' {
-        return number_n(key);
-    }
-    if b == b's' {
-        return number_s(key);
-    }
-    if b == b'a' {
-        return number_if(key, b"aliases", Members::ALIASES);
-    }
-    if b == b'f' {
-        return number_if(key, b"fields", Members::FIELDS);
-    }
-    if b == b'd' {
-        return number_if(key, b"default", Members::DEFAULT);
-    }
-    if b == b'i' {
-        return number_if(key, b"items", Members::ITEMS);
-    }
-    if b == b'v' {
-        return number_if(key, b"values", Members::VALUES);
-    }
-    if b == b'l' {
-        return number_if(key, b"logicalType", Members::LOGICAL_TYPE);
-    }
-    if b == b'p' {
-        return number_if(key, b"precision", Members::PRECISION);
-    }
-    Members::OTHER
 }
 
 // The number of the key at `at`. No key that has a number is longer than 16 bytes.
@@ -241,14 +222,11 @@ pub fn members_at(text: &[u8], ends: &[u16], at: usize) -> Members
 fn title_of(key: &[u8]) -> usize
     ensures { result ≡ title_number key.now }
 {
-    let b = byte_at(key, 0);
-    if b == b'n' {
-        return number_if(key, b"name", Members::NAME);
+    match byte_at(key, 0) {
+        b'n' => number_if(key, b"name", Members::NAME),
+        b'a' => number_if(key, b"aliases", Members::ALIASES),
+        _ => Members::OTHER,
     }
-    if b == b'a' {
-        return number_if(key, b"aliases", Members::ALIASES);
-    }
-    Members::OTHER
 }
 
 // The same for the key at `at`, escapes undone.

@@ -2,7 +2,6 @@
 ghost use Rattle.std.specs.Prelude.{◌≡◌};
 ghost use Rattle.view.specs.Values.{shape_of, shape_at, is_value, starts_value};
 
-use super::bytes::is_digit;
 use ground::byte_at;
 
 // What a value is. `Nothing`: no value starts here.
@@ -16,34 +15,18 @@ pub enum Shape {
     Nothing,
 }
 
+#[tactic(auto, unfolding(crate::specs::Values::shape_of))]
 fn shape_of(b: u8) -> Shape
     ensures { result ≡ shape_of b }
 {
-    if b == b'"' {
-        return Shape::Text;
+    match b {
+        b'"' => Shape::Text,
+        b'[' => Shape::Array,
+        b'{' => Shape::Object,
+        b'-' | b'0'..=b'9' => Shape::Number,
+        b't' | b'f' | b'n' => Shape::Word,
+        _ => Shape::Nothing,
     }
-    if b == b'[' {
-        return Shape::Array;
-    }
-    if b == b'{' {
-        return Shape::Object;
-    }
-    if b == b'-' {
-        return Shape::Number;
-    }
-    if is_digit(b) {
-        return Shape::Number;
-    }
-    if b == b't' {
-        return Shape::Word;
-    }
-    if b == b'f' {
-        return Shape::Word;
-    }
-    if b == b'n' {
-        return Shape::Word;
-    }
-    Shape::Nothing
 }
 
 // The kind of the value at `at`.
@@ -53,17 +36,11 @@ pub fn shape_at(text: &[u8], at: usize) -> Shape
     shape_of(byte_at(text, at))
 }
 
+#[tactic(auto, unfolding(crate::specs::Values::is_value))]
 fn is_value(s: Shape) -> bool
     ensures { result ≡ is_value s }
 {
-    match s {
-        Shape::Text => true,
-        Shape::Number => true,
-        Shape::Object => true,
-        Shape::Array => true,
-        Shape::Word => true,
-        Shape::Nothing => false,
-    }
+    !matches!(s, Shape::Nothing)
 }
 
 // Does a value start with this byte?

@@ -5,12 +5,6 @@ ghost use Rattle.view.specs.Size.{size_of};
 use super::bytes::{is_delimiter, is_digit};
 use ground::byte_at;
 
-fn wide(b: u8) -> u64
-    ensures { (result ≡ b) × (result < 256) }
-{
-    b as u64
-}
-
 // The number of digits only that stands at `at`, if there is one and it fits.
 pub fn size_literal(text: &[u8], at: usize) -> Option<u64>
     ensures { result ≡ size_of text.now at }
@@ -19,22 +13,13 @@ pub fn size_literal(text: &[u8], at: usize) -> Option<u64>
         return None;
     }
     let mut v: u64 = 0;
-    let mut p = at;
-    while p < text.len() {
+    for p in at..text.len() {
         let b = text[p];
-        if is_digit(b) {
-            let d = wide(b) - 48;
-            if v > (18446744073709551615 - d) / 10 {
-                return None;
-            }
-            v = v * 10 + d;
-            p += 1;
-        } else {
-            if is_delimiter(b) {
-                return Some(v);
-            }
-            return None;
+        if !is_digit(b) {
+            return is_delimiter(b).then_some(v);
         }
+        let d = u64::from(b - b'0');
+        v = v.checked_mul(10)?.checked_add(d)?;
     }
     Some(v)
 }

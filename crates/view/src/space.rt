@@ -8,15 +8,12 @@ use super::bytes::is_space;
 pub fn skip(text: &[u8], at: usize) -> usize
     ensures { result ≡ skip_of text.now at }
 {
-    let mut p = at;
-    while p < text.len() {
-        if is_space(text[p]) {
-            p += 1;
-        } else {
+    for p in at..text.len() {
+        if !is_space(text[p]) {
             return p;
         }
     }
-    p
+    text.len().max(at)
 }
 
 // Where the text's one value starts.

@@ -9,18 +9,12 @@ use super::strings::plain_end;
 use ground::byte_at;
 use json_scan::Scan;
 
-fn wide(e: u16) -> usize
-    ensures { result ≡ e }
-{
-    e as usize
-}
-
 // What the table holds for a place, 0 where nothing is known.
 pub fn known(ends: &[u16], at: usize) -> usize
     ensures { result ≡ end_in ends.now at }
 {
     if at < ends.len() {
-        return wide(ends[at]);
+        return usize::from(ends[at]);
     }
     0
 }
@@ -62,10 +56,7 @@ fn keep(kept: &mut [u16; Scan::NESTING], depth: usize, at: usize)
 fn is_closing(b: u8) -> bool
     ensures { result ≡ (eqb b 93 || eqb b 125) }
 {
-    if b == b']' {
-        return true;
-    }
-    b == b'}'
+    b == b']' || b == b'}'
 }
 
 // How many brackets are open behind the byte at `at`, outside of strings. One that opens is kept, one that closes is noted.
@@ -92,7 +83,7 @@ fn note_bracket(
     }
     let last = depth - 1;
     if last < Scan::NESTING {
-        note(ends, wide(kept[last]), at + 1);
+        note(ends, usize::from(kept[last]), at + 1);
     }
     last
 }
@@ -104,6 +95,7 @@ pub fn find_ends(text: &[u8], ends: &mut [u16])
 {
     let mut kept: [u16; Scan::NESTING] = [0; Scan::NESTING];
     let mut depth: usize = 0;
+    // The byte decides how far the next step goes, so no range fits.
     let mut p: usize = 0;
     while p < text.len() {
         let b = text[p];

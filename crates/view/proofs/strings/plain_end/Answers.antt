@@ -11,12 +11,6 @@ loop-p-init c = run_none _ _ (search rules)
 pub loop-p-preserved-then-b-gt92 : goal.loop-p-preserved-then-b-gt92
 loop-p-preserved-then-b-gt92 c = run_letter _ _ _ c.loop-p.invariant c.loop-p-test.true c.if-b-gt92.true
 
-pub returns-then-b-eq92 : goal.returns-then-b-eq92
-returns-then-b-eq92 c = c.loop-p.invariant
-
-pub returns-then-is_stop : goal.returns-then-is_stop
-returns-then-is_stop c = c.loop-p.invariant
-
 pub loop-p-preserved : goal.loop-p-preserved
 loop-p-preserved c = run_turn _ _ _ c.loop-p.invariant c.loop-p-test.true c.if-b-eq92.false (sym c.is_stop.ensures ∙ c.if-is_stop.false)
 

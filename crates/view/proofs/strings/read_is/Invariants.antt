@@ -7,8 +7,5 @@ use Rattle.ground.specs.Bytes.{same}
 use Rattle.view.specs.Strings.{string_at, left_of, Within}
 use Rattle.view.proofs.strings.read_is.Given as goal
 
-abbrev pub invariant-loop-b : goal.invariant-loop-b
-invariant-loop-b l = Within l.text l.c × (l.i + length (left_of l.text l.c) ≡ length l.word) × (same (left_of l.text l.c) (drop l.i l.word) ≡ same (string_at l.text l.at) l.word)
-
-abbrev pub decreases-loop-b : goal.decreases-loop-b
-decreases-loop-b l = length (left_of l.text l.c)
+abbrev pub invariant-loop-x : goal.invariant-loop-x
+invariant-loop-x l = Within l.text l.c × (length l.word ≡ l.x-index + length (left_of l.text l.c)) × (same (left_of l.text l.c) (drop l.x-index l.word) ≡ same (string_at l.text l.at) l.word)

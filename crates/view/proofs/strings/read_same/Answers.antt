@@ -10,11 +10,11 @@ use Rattle.view.proofs.Undone.{read_end, read_byte, read_within, lengths_differ,
 use Rattle.view.proofs.strings.read_same.Goals as goal
 
 pub returns-then-not-has_length : goal.returns-then-not-has_length
-returns-then-not-has_length c = lengths_differ _ _ (c.has_length.ensures ∙ ap (eqb _) c.string_length.ensures) c.if-not-has_length.true-raw
+returns-then-not-has_length c = lengths_differ _ _ (c.has_length.ensures ∙ ap (eqb _) c.string_length.ensures) c.if-not-has_length.true
 
 pub loop-a-init : goal.loop-a-init
 loop-a-init c =
-    let e = lengths_agree (string_at c.args.text.now c.args.one) (string_at c.args.text.now c.args.other) (c.has_length.ensures ∙ ap (eqb _) c.string_length.ensures) c.if-not-has_length.false-raw in
+    let e = lengths_agree (string_at c.args.text.now c.args.one) (string_at c.args.text.now c.args.other) (c.has_length.ensures ∙ ap (eqb _) c.string_length.ensures) c.if-not-has_length.false in
     let z = ap length c.opening-c.ensures.0 in
     (c.opening-c.ensures.1, c.opening-d.ensures.1, omega (arith, ap length c.opening-d.ensures.0), ap₂ same c.opening-c.ensures.0 c.opening-d.ensures.0)
 
