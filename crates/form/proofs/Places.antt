@@ -2,7 +2,7 @@
 -- Assumes nothing.
 use Rattle.std.specs.Prelude.{Option, Some, None}
 use mathlib.Core.Path.{◌≡◌, refl, sym, ap, ◌∙◌}
-use mathlib.Core.Bool.{Bool, true, false, cond, ◌&&◌}
+use mathlib.Core.Bool.{Bool, true, false, ◌&&◌}
 use mathlib.Core.List.{List}
 use Prim.Native.Nat.{ℕ, ◌<◌}
 use native.Mathlib.Omega.{arith}
@@ -10,49 +10,12 @@ use lib.ListN.{length}
 use Rattle.view.specs.Values.{shape_at}
 use Rattle.view.specs.Elements.{first_element, next_element, elements_at, elements}
 use Rattle.view.proofs.Laws.{left_start, left_done, left_next}
-use Rattle.form.specs.Spots.{on_spot, is_text, is_array, as_text, as_array, all_texts, aliases_in}
+use Rattle.form.specs.Spots.{is_text, as_array, all_texts, aliases_in}
 
 -- ---- a loop over an array's elements: what is left falls
 
 pub visit_less : (t : List ℕ) {s s' : Option ℕ} {p : ℕ} → s ≡ Some p → s' ≡ next_element t p → length (elements_at t s') < length (elements_at t s)
 visit_less t e f = let z = ap length (left_next t e f) in omega arith
-
--- ---- a place that is kept where a test holds
-
-module _ (k : ℕ → Bool) {s : Option ℕ} where
-  only_none : s ≡ None → None ≡ on_spot s (λ p. cond (k p) s None) None
-  only_none e = rw e
-
-  only_here : {p : ℕ} {b : Bool} → s ≡ Some p → b ≡ k p → b ≡ true → Some p ≡ on_spot s (λ q. cond (k q) s None) None
-  only_here e f g = rw (e, ← f, g)
-
-  only_other : {p : ℕ} {b : Bool} → s ≡ Some p → b ≡ k p → b ≡ false → None ≡ on_spot s (λ q. cond (k q) s None) None
-  only_other e f g = rw (e, ← f, g)
-
-module _ (t : List ℕ) {s : Option ℕ} where
-  pub text_none : s ≡ None → None ≡ as_text t s
-  unfolding as_text
-  text_none e = only_none (λ p. is_text (shape_at t p)) e
-
-  pub text_here : {p : ℕ} {b : Bool} → s ≡ Some p → b ≡ is_text (shape_at t p) → b ≡ true → Some p ≡ as_text t s
-  unfolding as_text
-  text_here e f g = only_here (λ p. is_text (shape_at t p)) e f g
-
-  pub text_other : {p : ℕ} {b : Bool} → s ≡ Some p → b ≡ is_text (shape_at t p) → b ≡ false → None ≡ as_text t s
-  unfolding as_text
-  text_other e f g = only_other (λ p. is_text (shape_at t p)) e f g
-
-  pub array_none : s ≡ None → None ≡ as_array t s
-  unfolding as_array
-  array_none e = only_none (λ p. is_array (shape_at t p)) e
-
-  pub array_here : {p : ℕ} {b : Bool} → s ≡ Some p → b ≡ is_array (shape_at t p) → b ≡ true → Some p ≡ as_array t s
-  unfolding as_array
-  array_here e f g = only_here (λ p. is_array (shape_at t p)) e f g
-
-  pub array_other : {p : ℕ} {b : Bool} → s ≡ Some p → b ≡ is_array (shape_at t p) → b ≡ false → None ≡ as_array t s
-  unfolding as_array
-  array_other e f g = only_other (λ p. is_array (shape_at t p)) e f g
 
 -- ---- strings only
 

@@ -56,21 +56,17 @@ fn either(word: &[u8], one: &[u8], is: Kind, other: &[u8], or: Kind) -> Kind
     Kind::Reference
 }
 
-// The kind of a word. Its length leaves two to compare it with.
+// The kind of a word. Its length leaves two to compare it with. A match of the words was tried: it leaves a goal for each byte that may be
+// another one, 39 of them.
 fn kind_of(word: &[u8]) -> Kind
     ensures { result ≡ word_kind word.now }
 {
-    let n = word.len();
-    if n == 4 {
-        return either(word, b"null", Kind::Null, b"long", Kind::Long);
+    match word.len() {
+        4 => either(word, b"null", Kind::Null, b"long", Kind::Long),
+        5 => either(word, b"float", Kind::Float, b"bytes", Kind::Bytes),
+        6 => either(word, b"double", Kind::Double, b"string", Kind::String),
+        _ => either(word, b"boolean", Kind::Boolean, b"int", Kind::Int),
     }
-    if n == 5 {
-        return either(word, b"float", Kind::Float, b"bytes", Kind::Bytes);
-    }
-    if n == 6 {
-        return either(word, b"double", Kind::Double, b"string", Kind::String);
-    }
-    either(word, b"boolean", Kind::Boolean, b"int", Kind::Int)
 }
 
 // The kind that a string names.
@@ -93,6 +89,8 @@ pub fn word_kind(text: &[u8], ends: &[u16], at: usize) -> Kind
 }
 
 // The form of an object at `at`, whose `type` is the word, at `typed`.
+// A match of the words was tried: it leaves a goal for each byte that may be another one, 24 of them.
+#[tactic(auto, unfolding(crate::specs::Forms::object_form))]
 fn form_of(word: &[u8], at: usize, typed: usize) -> Form
     ensures { result ≡ object_form word.now at typed }
 {
@@ -182,8 +180,7 @@ pub fn find(text: &[u8], ends: &[u16], at: usize) -> Found
     ensures { result ≡ found_of text.now (form_of text.now at) }
 {
     let mut p = at;
-    let mut left: usize = Form::MOST_NESTED;
-    while 0 < left {
+    for _ in 0..Form::MOST_NESTED {
         if !is_object(text, p) {
             return other_form(text, p);
         }
@@ -197,7 +194,6 @@ pub fn find(text: &[u8], ends: &[u16], at: usize) -> Found
             return Found { form, members };
         }
         p = q;
-        left -= 1;
     }
     wrong(Why::NestedTooDeep, p)
 }

@@ -15,7 +15,16 @@ pub struct Note {
     pub scale: u64,
 }
 
-// The type that is left where no decimal holds: bytes, or a fixed with its size.
+impl Note {
+    // There is no decimal.
+    pub const NONE: Note = Note {
+        note: 0,
+        precision: 0,
+        scale: 0,
+    };
+}
+
+// The type that is left where no decimal holds: bytes, or a fixed with its size. No Option: None would not say that bytes are left.
 #[derive(Clone, Copy)]
 pub enum Plain {
     Bytes,
@@ -105,5 +114,5 @@ pub fn decimal_note(text: &[u8], ends: &[u16], members: Members, plain: Plain) -
     if is_decimal(text, ends, members) {
         return with_precision(text, members, plain);
     }
-    noted(0)
+    Note::NONE
 }

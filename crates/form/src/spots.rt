@@ -11,68 +11,37 @@ use view::{Shape, first_element, next_element, shape_at};
 pub fn is_text(text: &[u8], at: usize) -> bool
     ensures { result ≡ is_text (shape_at text.now at) }
 {
-    match shape_at(text, at) {
-        Shape::Text => true,
-        Shape::Number => false,
-        Shape::Object => false,
-        Shape::Array => false,
-        Shape::Word => false,
-        Shape::Nothing => false,
-    }
+    matches!(shape_at(text, at), Shape::Text)
 }
 
 // Does an object?
 pub fn is_object(text: &[u8], at: usize) -> bool
     ensures { result ≡ is_object (shape_at text.now at) }
 {
-    match shape_at(text, at) {
-        Shape::Text => false,
-        Shape::Number => false,
-        Shape::Object => true,
-        Shape::Array => false,
-        Shape::Word => false,
-        Shape::Nothing => false,
-    }
+    matches!(shape_at(text, at), Shape::Object)
 }
 
 // Does an array?
 pub fn is_array(text: &[u8], at: usize) -> bool
     ensures { result ≡ is_array (shape_at text.now at) }
 {
-    match shape_at(text, at) {
-        Shape::Text => false,
-        Shape::Number => false,
-        Shape::Object => false,
-        Shape::Array => true,
-        Shape::Word => false,
-        Shape::Nothing => false,
-    }
+    matches!(shape_at(text, at), Shape::Array)
 }
 
 // The place, if a string stands there.
+#[tactic(auto, unfolding(crate::specs::Spots::as_text))]
 pub fn as_text(text: &[u8], spot: Option<usize>) -> Option<usize>
     ensures { result ≡ as_text text.now spot }
 {
-    let Some(p) = spot else {
-        return None;
-    };
-    if is_text(text, p) {
-        return Some(p);
-    }
-    None
+    spot.filter(|p| is_text(text, *p))
 }
 
 // The place, if an array stands there.
+#[tactic(auto, unfolding(crate::specs::Spots::as_array))]
 pub fn as_array(text: &[u8], spot: Option<usize>) -> Option<usize>
     ensures { result ≡ as_array text.now spot }
 {
-    let Some(p) = spot else {
-        return None;
-    };
-    if is_array(text, p) {
-        return Some(p);
-    }
-    None
+    spot.filter(|p| is_array(text, *p))
 }
 
 // Are all elements of the array at a place strings?
@@ -95,9 +64,7 @@ pub fn first_alias(text: &[u8], ends: &[u16], spot: Option<usize>) -> Option<usi
     requires { Known text.now ends.now }
     ensures { elements_at text.now result ≡ aliases_in text.now spot }
 {
-    let Some(p) = as_array(text, spot) else {
-        return None;
-    };
+    let p = as_array(text, spot)?;
     if all_texts(text, ends, p) {
         return first_element(text, p);
     }

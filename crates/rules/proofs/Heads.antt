@@ -1,6 +1,6 @@
 -- What tells the members of a union apart: one law for each way out of the code, and the turns of its loops.
 -- Assumes nothing.
-use Rattle.std.specs.Prelude.{Option, Some, None, Ok, Err}
+use Rattle.std.specs.Prelude.{Option, Some, None, Ok}
 use mathlib.Core.Path.{◌≡◌, refl, sym, ap, ap₂, ◌∙◌}
 use mathlib.Core.Bool.{Bool, true, false, not, cond, ◌&&◌, ◌||◌}
 use mathlib.Core.List.{List, [], ◌∷◌}
@@ -10,7 +10,6 @@ use native.Mathlib.Omega.{arith}
 use lib.Dec.{eqb}
 use lib.ListN.{length, take, drop, length-take}
 use lib.Seq.{take-append_seam}
-use borrow.Author.Tests.{eq-eqb, ne_eqb}
 use Rattle.answer.specs.declared.refusal.Fault.{Fault}
 use Rattle.answer.specs.declared.refusal.Why.TheVariants.{UnionRuleBroken}
 use Rattle.ground.specs.Bytes.{same, store}
@@ -78,31 +77,6 @@ clash_kind : (h : Head) (k : Kind) → clash h (unnamed k) ≡ eqb (head_number 
 unfolding clash
 clash_kind (unnamed j) k = refl
 clash_kind (called a) k = sym (kind_some k)
-
-module _ (t : List ℕ) (q : ℕ) {k : Kind} (e : k ≡ word_kind (string_at t q)) {n : ℕ} (f : n ≡ kind_number k) where
-  number_word : n ≡ kind_number (word_kind (string_at t q))
-  number_word = f ∙ ap kind_number e
-
-  pub number_reference : {r : ℕ} → r ≡ 16 → n ≡ r → (namespace : List ℕ) → 0 ≡ head_number (word_head t namespace q (word_kind (string_at t q)))
-  number_reference h g namespace = rw (eq-eqb (kind_number (word_kind (string_at t q))) 16 (sym number_word ∙ g ∙ h))
-
-  pub number_primitive : {r : ℕ} → r ≡ 16 → (n ≡ r → ⊥) → (namespace : List ℕ) → n ≡ head_number (word_head t namespace q (word_kind (string_at t q)))
-  number_primitive h g namespace =
-      rw (ne_eqb (kind_number (word_kind (string_at t q))) 16 (λ z. g (number_word ∙ z ∙ sym h))) number_word
-
-  -- the head of a string, in a namespace: by its full name, or by the number of its kind
-  pub apart_reference : (namespace : List ℕ) {r : ℕ} → r ≡ 16 → n ≡ r → {a : Option ℕ} (m : List ℕ) {m' : List ℕ}
-      → (a ≡ answer_of (full_at t namespace q)) × (m' ≡ buffer_after m (full_at t namespace q)) → {x : Apart} → x ≡ by_name a
-      → (x ≡ apart_of (word_head t namespace q (word_kind (string_at t q)))) × (m' ≡ name_after m (word_head t namespace q (word_kind (string_at t q))))
-  unfolding apart_of name_after
-  apart_reference namespace h g m i j =
-      rw (eq-eqb (kind_number (word_kind (string_at t q))) 16 (sym number_word ∙ g ∙ h)) (j ∙ ap by_name i.0, i.1)
-
-  pub apart_primitive : (namespace : List ℕ) {r : ℕ} → r ≡ 16 → (n ≡ r → ⊥) → (m : List ℕ)
-      → (apart.Kind n ≡ apart_of (word_head t namespace q (word_kind (string_at t q)))) × (m ≡ name_after m (word_head t namespace q (word_kind (string_at t q))))
-  unfolding apart_of name_after
-  apart_primitive namespace h g m =
-      rw (ne_eqb (kind_number (word_kind (string_at t q))) 16 (λ z. g (number_word ∙ z ∙ sym h))) (ap apart.Kind number_word, refl)
 
 -- the head of a form, by its case
 module _ (t namespace : List ℕ) where
@@ -334,15 +308,6 @@ module _ (t namespace : List ℕ) {s : Standing} where
   alone_fine h e = rw e
 
   module _ {u p : ℕ} (e : s ≡ MemberOf u p) where
-    pub union_in_union : (k : Kind) {n m : ℕ} → n ≡ kind_number k → m ≡ 26 → n ≡ m → Err (fault UnionRuleBroken p) ≡ union_check t namespace s (unnamed k)
-    unfolding union_check
-    union_in_union k f g h = rw (e, eq-eqb (kind_number k) 26 (sym f ∙ h ∙ g))
-
-    pub kind_new : (k : Kind) {n m : ℕ} → n ≡ kind_number k → m ≡ 26 → (n ≡ m → ⊥) → {b : Bool} → b ≡ is_new t namespace (unnamed k) (before p (elements t u))
-        → {r : Check} → r ≡ must b (fault UnionRuleBroken p) → r ≡ union_check t namespace s (unnamed k)
-    unfolding union_check
-    kind_new k f g h i j = rw (e, ne_eqb (kind_number k) 26 (λ z. h (f ∙ z ∙ sym g)), ← i) j
-
     pub name_new : (a : List ℕ) {b : Bool} → b ≡ is_new t namespace (called a) (before p (elements t u))
         → {r : Check} → r ≡ must b (fault UnionRuleBroken p) → r ≡ union_check t namespace s (called a)
     unfolding union_check

@@ -120,13 +120,11 @@ fn is_small(text: &[u8], ends: &[u16], array: usize) -> bool
     requires { Known text.now ends.now }
 {
     let mut spot = first_element(text, array);
-    let mut n: usize = 0;
-    while n < FEW {
+    for _ in 0..FEW {
         let Some(p) = spot else {
             return true;
         };
         spot = next_element(text, ends, p);
-        n += 1;
     }
     false
 }

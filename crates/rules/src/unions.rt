@@ -25,11 +25,11 @@ fn word_number(text: &[u8], ends: &[u16], at: usize) -> u8
     requires { Known text.now ends.now }
     ensures { (namespace : List ℕ) → result ≡ head_number (word_head text.now namespace at (word_kind (string_at text.now at))) }
 {
-    let number = word_kind(text, ends, at).number();
-    if number == Kind::Reference.number() {
+    let named = word_kind(text, ends, at);
+    if named == Kind::Reference {
         return 0;
     }
-    number
+    named.number()
 }
 
 // The number of an unnamed schema's kind, 0 where the schema is told by its full name.
@@ -71,6 +71,7 @@ fn is_new_kind(text: &[u8], ends: &[u16], array: usize, member: usize, kind: Kin
 }
 
 // 19, for a schema of an unnamed kind, in whatever namespace.
+#[tactic(auto, unfolding(crate::specs::Unions::union_check))]
 pub fn new_kind(text: &[u8], ends: &[u16], standing: Standing, kind: Kind) -> Check
     requires { Known text.now ends.now }
     ensures { (namespace : List ℕ) → result ≡ union_check text.now namespace standing (unnamed kind) }
@@ -78,7 +79,7 @@ pub fn new_kind(text: &[u8], ends: &[u16], standing: Standing, kind: Kind) -> Ch
     let Standing::MemberOf(array, member) = standing else {
         return Ok(());
     };
-    if kind.number() == Kind::Union.number() {
+    if kind == Kind::Union {
         return Err(Fault {
             why: Why::UnionRuleBroken,
             at: member,
@@ -176,6 +177,7 @@ fn definition_full(
 }
 
 // What tells a string apart.
+#[tactic(auto, unfolding(crate::specs::Unions::apart_of, crate::specs::Unions::name_after))]
 fn word_apart(
     text: &[u8],
     ends: &[u16],
@@ -187,11 +189,11 @@ fn word_apart(
     requires { (length text.now ≤ longest) × Known text.now ends.now }
     ensures { (result ≡ apart_of (word_head text.now namespace.now at (word_kind (string_at text.now at)))) × (full.new ≡ name_after full.old (word_head text.now namespace.now at (word_kind (string_at text.now at)))) }
 {
-    let kind = word_kind(text, ends, at).number();
-    if kind == Kind::Reference.number() {
+    let kind = word_kind(text, ends, at);
+    if kind == Kind::Reference {
         return by_name(full_at(text, ends, namespace, at, word, full));
     }
-    Apart::Kind(kind)
+    Apart::Kind(kind.number())
 }
 
 // What tells the schema at a place apart.

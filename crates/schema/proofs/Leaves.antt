@@ -2,13 +2,13 @@
 -- Assumes nothing.
 use Rattle.std.specs.Prelude.{Option, Some, None, Ok, Err, Result}
 use mathlib.Core.Path.{◌≡◌, refl, sym, ap, ◌∙◌, subst}
-use mathlib.Core.Bool.{false, cond}
+use mathlib.Core.Bool.{true, false, cond}
 use mathlib.Core.List.{List, [], ◌∷◌}
 use Prim.Native.Nat.{ℕ, ◌+◌, ◌-◌, ◌<◌, ◌≤◌}
 use native.Mathlib.Omega.{arith}
 use lib.Dec.{eqb}
 use lib.ListN.{length, take, drop}
-use borrow.Author.Tests.{eq-eqb, ne_eqb, le-leb, lt-leb}
+use borrow.Author.Tests.{le-leb, lt-leb}
 use Rattle.answer.specs.declared.counts.Counts.{Counts}
 use Rattle.answer.specs.declared.refusal.Fault.{Fault}
 use Rattle.answer.specs.declared.refusal.Why.TheVariants.{NameMissing, DefaultTooLong}
@@ -120,14 +120,6 @@ module _ (t namespace : List ℕ) (standing : Standing) (d q : ℕ) {m m' : List
 
 -- ---- primitives
 
-pub note_bytes : (t : List ℕ) (kind : Kind) (m : Members) {x y : ℕ} {r : Note} → x ≡ kind_number kind → y ≡ kind_number Bytes → x ≡ y → r ≡ note_of t m over.Bytes
-    → r ≡ cond (eqb (kind_number kind) (kind_number Bytes)) (note_of t m over.Bytes) (noted 0)
-note_bytes t kind m a b e f = f ∙ rw (eq-eqb (kind_number kind) (kind_number Bytes) (sym a ∙ e ∙ b)) refl
-
-pub note_other : (t : List ℕ) (kind : Kind) (m : Members) {x y : ℕ} → x ≡ kind_number kind → y ≡ kind_number Bytes → (x ≡ y → ⊥)
-    → noted 0 ≡ cond (eqb (kind_number kind) (kind_number Bytes)) (note_of t m over.Bytes) (noted 0)
-note_other t kind m a b e = rw (ne_eqb (kind_number kind) (kind_number Bytes) (λ z. e (a ∙ z ∙ sym b))) refl
-
 module _ (t namespace : List ℕ) (standing : Standing) (d : ℕ) (kind : Kind) (q : ℕ) (o : Members) {m m' : List ℕ} {c : Counts}
     {r : Check} (e : (ns : List ℕ) → r ≡ union_check t ns standing (unnamed kind)) where
   pub primitive_old : {f : Fault} → r ≡ Err f → Did m c m' (Err f) (primitive_with t (around namespace standing) d kind q o)
@@ -143,16 +135,18 @@ module _ (t namespace : List ℕ) (standing : Standing) (d : ℕ) (kind : Kind) 
 
 -- ---- words
 
-module _ (t : List ℕ) (q : ℕ) {kind : Kind} (k : kind ≡ word_kind (string_at t q)) {x y : ℕ} (a : x ≡ kind_number kind) (b : y ≡ kind_number Reference) where
-  pub word_other : (x ≡ y → ⊥) → eqb (kind_number (word_kind (string_at t q))) (kind_number Reference) ≡ false
-  word_other e = rw (← k) (ne_eqb (kind_number kind) (kind_number Reference) (λ z. e (a ∙ z ∙ sym b)))
+module _ (t : List ℕ) (q : ℕ) {kind : Kind} (k : kind ≡ word_kind (string_at t q)) where
+  pub word_other : eqb (kind_number kind) (kind_number Reference) ≡ false → eqb (kind_number (word_kind (string_at t q))) (kind_number Reference) ≡ false
+  word_other e = rw (← k) e
 
   module _ (namespace : List ℕ) (standing : Standing) (d : ℕ) (o : Members) where
-    pub word_reference : x ≡ y → word_with t (around namespace standing) d q o ≡ reference_rows t (around namespace standing) d q
+    pub word_reference : eqb (kind_number kind) (kind_number Reference) ≡ true
+        → word_with t (around namespace standing) d q o ≡ reference_rows t (around namespace standing) d q
     unfolding word_with
-    word_reference e = rw (← k, eq-eqb (kind_number kind) (kind_number Reference) (sym a ∙ e ∙ b)) refl
+    word_reference e = rw (← k, e) refl
 
-    pub word_primitive : (x ≡ y → ⊥) → word_with t (around namespace standing) d q o ≡ primitive_with t (around namespace standing) d kind q o
+    pub word_primitive : eqb (kind_number kind) (kind_number Reference) ≡ false
+        → word_with t (around namespace standing) d q o ≡ primitive_with t (around namespace standing) d kind q o
     unfolding word_with
     word_primitive e = rw (word_other e, k) refl
 

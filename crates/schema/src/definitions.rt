@@ -146,11 +146,6 @@ pub(crate) fn put_enum(
     ensures { Did draft.old counts draft.new result (enum_rows text.now (around namespace.now standing) depth at members) }
 {
     let mut full: [u8; Full::LONGEST] = [0; Full::LONGEST];
-    let none = Note {
-        note: 0,
-        precision: 0,
-        scale: 0,
-    };
     let defined = define(
         text,
         ends,
@@ -165,7 +160,7 @@ pub(crate) fn put_enum(
         at,
         members,
         0,
-        none,
+        Note::NONE,
     )?;
     let next = defined.next;
     put_checked_symbols(text, ends, depth + 1, at, members, draft, next, word, table)

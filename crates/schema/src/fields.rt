@@ -40,12 +40,7 @@ fn put_field_row(
     let Some(v) = default else {
         return put_string(text, ends, Kind::Field, depth, at, draft, counts, word);
     };
-    let none = Note {
-        note: 0,
-        precision: 0,
-        scale: 0,
-    };
-    let row = entry(Kind::Field, depth, at, v as u64, none);
+    let row = entry(Kind::Field, depth, at, v as u64, Note::NONE);
     let stop = end(text, ends, v);
     put_both(text, ends, row, at, &text[v..stop], draft, counts, word)
 }

@@ -50,12 +50,7 @@ pub(crate) fn put(
     ensures { (result ≡ counted counts (length text.now))
         × (draft.new ≡ pushed draft.old counts (row_with kind depth at text.now 0 (noted 0))) }
 {
-    let none = Note {
-        note: 0,
-        precision: 0,
-        scale: 0,
-    };
-    let row = entry(kind, depth, at, 0, none);
+    let row = entry(kind, depth, at, 0, Note::NONE);
     push(draft, counts, row, text)
 }
 
@@ -100,12 +95,7 @@ pub(crate) fn put_string(
     ensures { (result ≡ counted counts (length (string_at text.now at)))
         × (draft.new ≡ pushed draft.old counts (row_with kind depth at (string_at text.now at) 0 (noted 0))) }
 {
-    let none = Note {
-        note: 0,
-        precision: 0,
-        scale: 0,
-    };
-    let row = entry(kind, depth, at, 0, none);
+    let row = entry(kind, depth, at, 0, Note::NONE);
     put_both(text, ends, row, at, b"", draft, counts, word)
 }
 

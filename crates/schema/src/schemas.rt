@@ -209,11 +209,6 @@ fn put_record(
     requires { (Asks text.now (depth + 2) left) × Known text.now ends.now × Sized table.old }
     ensures { Did draft.old counts draft.new result (record_rows (schema_of left text.now) text.now (around namespace.now standing) depth at members) }
 {
-    let none = Note {
-        note: 0,
-        precision: 0,
-        scale: 0,
-    };
     let defined = define(
         text,
         ends,
@@ -228,7 +223,7 @@ fn put_record(
         at,
         members,
         0,
-        none,
+        Note::NONE,
     )?;
     let fields = members.fields;
     let Some(v) = as_array(text, fields) else {

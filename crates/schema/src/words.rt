@@ -48,14 +48,10 @@ fn note_of(text: &[u8], ends: &[u16], kind: Kind, members: Members) -> Note
     requires { Known text.now ends.now }
     ensures { result ≡ cond (eqb (kind_number kind) (kind_number Bytes)) (note_of text.now members over.Bytes) (noted 0) }
 {
-    if kind.number() == Kind::Bytes.number() {
+    if kind == Kind::Bytes {
         return decimal_note(text, ends, members, Plain::Bytes);
     }
-    Note {
-        note: 0,
-        precision: 0,
-        scale: 0,
-    }
+    Note::NONE
 }
 
 // The primitive at `at`, the `type` of the object with these members.
@@ -98,7 +94,7 @@ pub(crate) fn put_word(
     ensures { Did draft.old counts draft.new result (word_with text.now (around namespace.now standing) depth at members) }
 {
     let kind = word_kind(text, ends, at);
-    if kind.number() == Kind::Reference.number() {
+    if kind == Kind::Reference {
         return put_reference(
             text, ends, namespace, word, full, draft, counts, standing, depth, at,
         );
