@@ -21,10 +21,7 @@ fn is_of_enum(mem: &[u8], n: usize, text: &[u8], ends: &[u16], row: usize, at: u
     requires { (length mem.now ≡ layout_length) × (n ≤ row_limit) × (row < n) × Known text.now ends.now }
     ensures { result ≡ (is_string text.now at && some (is_symbol (string_at text.now at)) (parts_under (entry_at mem.now row).depth (type_at mem.now n (row + 1)))) }
 {
-    if is_string(text, at) {
-        return has_symbol(mem, n, row + 1, depth_at(mem, row), text, ends, at);
-    }
-    false
+    is_string(text, at) && has_symbol(mem, n, row + 1, depth_at(mem, row), text, ends, at)
 }
 
 // Does the value at `at` fit the type at a row, of a kind that has no values inside?

@@ -3,12 +3,6 @@ ghost use Rattle.std.specs.Prelude.{◌≡◌, ◌≤◌, ◌<◌};
 ghost use Rattle.row.specs.Layout.{row_limit};
 ghost use Rattle.fits.specs.Steps.{entry_at, noted};
 
-fn wide(x: u8) -> usize
-    ensures { (result ≡ x) × (result < 256) }
-{
-    x as usize
-}
-
 // The places of values that a table has room for.
 pub const PLACES: usize = 256;
 
@@ -27,7 +21,7 @@ pub fn asked(table: &[u8], n: usize, row: usize, at: usize) -> usize
     if table.len() <= i {
         return 0;
     }
-    wide(table[i])
+    usize::from(table[i])
 }
 
 // Notes it, where there is room.

@@ -22,4 +22,4 @@ pub returns-then-table-i : goal.returns-then-table-i
 returns-then-table-i c = entry_out _ _ _ _ c.if-n-row.false c.if-at-ge-PLACES.false c.if-table-i.true
 
 pub returns : goal.returns
-returns c = c.wide.ensures.0 ∙ entry_here _ _ _ _ c.if-n-row.false c.if-at-ge-PLACES.false
+returns c = c.from.ensures ∙ entry_here _ _ _ _ c.if-n-row.false c.if-at-ge-PLACES.false
