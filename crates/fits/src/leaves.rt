@@ -40,14 +40,6 @@ pub fn leaf(mem: &[u8], n: usize, text: &[u8], ends: &[u16], row: usize, at: usi
         Kind::String => is_string(text, at),
         Kind::Fixed => is_fixed(text, at, size_at(mem, row)),
         Kind::Enum => is_of_enum(mem, n, text, ends, row, at),
-        Kind::Array => false,
-        Kind::Map => false,
-        Kind::Record => false,
-        Kind::Union => false,
-        Kind::Reference => false,
-        Kind::Field => false,
-        Kind::Symbol => false,
-        Kind::Alias => false,
-        Kind::FieldAlias => false,
+        _ => false,
     }
 }

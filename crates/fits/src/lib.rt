@@ -25,15 +25,11 @@ use walk::fits_at;
 
 // Has the text's value a value inside? It has none where its first byte is no bracket, or its second closes that.
 fn is_deep(text: &[u8]) -> bool {
-    let first = byte_at(text, 0);
-    let second = byte_at(text, 1);
-    if first == b'[' {
-        return second != b']';
+    match byte_at(text, 0) {
+        b'[' => byte_at(text, 1) != b']',
+        b'{' => byte_at(text, 1) != b'}',
+        _ => false,
     }
-    if first == b'{' {
-        return second != b'}';
-    }
-    false
 }
 
 // With no table of verdicts.
@@ -91,10 +87,7 @@ pub fn fits(mem: &[u8], n: usize, row: usize, text: &[u8], found: &mut [u16]) ->
     ensures { (result ≡ fits (rows_from mem.now n 0) text.now (suc deepest) (rows_from mem.now (n - row) row) 0)
         × Found mem.now n found.new }
 {
-    if PLACES < text.len() {
-        return without_table(mem, n, row, text, found);
-    }
-    if is_deep(text) {
+    if text.len() <= PLACES && is_deep(text) {
         return with_tables(mem, n, row, text, found);
     }
     without_table(mem, n, row, text, found)

@@ -49,7 +49,7 @@ pub fn has_default(mem: &[u8], i: usize) -> bool
     requires { (length mem.now ≡ layout_length) × (i < row_limit) }
     ensures { result ≡ has_default (row_at mem.now i) }
 {
-    default_of(mem, i).len() != 0
+    !default_of(mem, i).is_empty()
 }
 
 // Is row i a symbol, and the string at `at` the symbol?

@@ -11,10 +11,7 @@ pub fn asked(table: &[u8], n: usize, row: usize, at: usize) -> usize
     requires { n ≤ row_limit }
     ensures { result ≡ entry_at n table.now row at }
 {
-    if n <= row {
-        return 0;
-    }
-    if PLACES <= at {
+    if n <= row || PLACES <= at {
         return 0;
     }
     let i = at * n + row;
@@ -29,10 +26,7 @@ pub fn note(table: &mut [u8], n: usize, row: usize, at: usize, v: usize)
     requires { (n ≤ row_limit) × (v < 256) }
     ensures { table.new ≡ noted n table.old row at v }
 {
-    if n <= row {
-        return;
-    }
-    if PLACES <= at {
+    if n <= row || PLACES <= at {
         return;
     }
     let i = at * n + row;
