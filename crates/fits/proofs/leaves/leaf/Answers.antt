@@ -1,6 +1,7 @@
 -- `fits::leaves::leaf` meets its contract: an arm for each kind.
 -- Assumes nothing.
 use mathlib.Core.Path.{refl, sym, ap, ◌∙◌}
+use mathlib.Core.Logic.{inl, inr}
 use Rattle.fits.proofs.FitLaws.{plain_kind, no_values, sized}
 use Rattle.fits.specs.Fits.{kind_fits}
 use Rattle.fits.specs.Steps.{is_nested}
@@ -40,11 +41,11 @@ returns-in-Enum c = λ go h. plain_kind _ _ _ _ _ c.requires.2 c.kind_at.ensures
 
 pub returns-in-Float : goal.returns-in-Float
 unfolding kind_fits
-returns-in-Float c = λ go h. plain_kind _ _ _ _ _ c.requires.2 c.kind_at.ensures c.in-Float.is go c.is_number.ensures
-
-pub returns-in-Double : goal.returns-in-Double
-unfolding kind_fits
-returns-in-Double c = λ go h. plain_kind _ _ _ _ _ c.requires.2 c.kind_at.ensures c.in-Double.is go c.is_number-in-Double.ensures
+returns-in-Float c = λ go h.
+    elim c.in-Float.is [
+      | inl f ↦ plain_kind _ _ _ _ _ c.requires.2 c.kind_at.ensures f go c.is_number.ensures
+      | inr f ↦ plain_kind _ _ _ _ _ c.requires.2 c.kind_at.ensures f go c.is_number.ensures
+    ]
 
 pub returns-in_default : goal.returns-in_default
 returns-in_default c = λ go h. plain_kind _ _ _ _ _ c.requires.2 c.kind_at.ensures refl go (no_values _ go _ _ _ c.kind_at.result (ap is_nested c.kind_at.ensures ∙ h) c.in_default.not-Null c.in_default.not-Boolean c.in_default.not-Int c.in_default.not-Long c.in_default.not-Float c.in_default.not-Double c.in_default.not-Bytes c.in_default.not-String c.in_default.not-Enum c.in_default.not-Fixed)
