@@ -1,6 +1,6 @@
 -- `fits::leaves::leaf` meets its contract: an arm for each kind.
 -- Assumes nothing.
-use mathlib.Core.Path.{refl, sym, ap, ◌∙◌}
+use mathlib.Core.Path.{refl, ap, ◌∙◌}
 use mathlib.Core.Logic.{inl, inr}
 use Rattle.fits.proofs.FitLaws.{plain_kind, no_values, sized}
 use Rattle.fits.specs.Fits.{kind_fits}
