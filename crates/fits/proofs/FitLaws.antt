@@ -14,7 +14,7 @@ use Rattle.row.specs.Rows.{Row}
 use Rattle.row.specs.Sets.{rows_from}
 use Rattle.row.specs.Memory.{entry_at, text_at, row_at}
 use Rattle.row.specs.declared.kind.Kind.{Kind}
-use Rattle.row.specs.declared.kind.Kind.TheVariants.{Reference, Array, Map, Union, Record, Field}
+use Rattle.row.specs.declared.kind.Kind.TheVariants.{Null, Boolean, Int, Long, Float, Double, Bytes, String, Reference, Array, Map, Union, Record, Enum, Fixed, Field, Symbol, Alias, FieldAlias}
 use Rattle.resolve.specs.Kinds.{is_kind}
 use Rattle.resolve.specs.Resolve.{definition_in}
 use Rattle.resolve.proofs.KindLaws.{kind_is}
@@ -41,9 +41,30 @@ module _ (m : List ℕ) (n : ℕ) (t : List ℕ) (p row : ℕ) (l : row < n) {k 
       h ∙ ap (λ (a : Kind). kind_fits t go a (row_at m row) (type_at m n (row + 1)) p) (sym f ∙ e)
       ∙ sym (ap (λ (type : List Row). plain_fits t go type p) (rows_next m row n l))
 
--- a leaf is not nested
-pub no_leaf : {k a b : Kind} → k ≡ a → k ≡ b → is_nested b ≡ true → is_nested a ≡ false → {A : Type 0} → A
-no_leaf e f g h = never (sym h ∙ ap is_nested (sym e ∙ f) ∙ g)
+-- no value fits what is neither a leaf nor nested
+pub no_values : (t : List ℕ) (go : List Row → ℕ → Bool) (r : Row) (rest : List Row) (p : ℕ) (k : Kind) → is_nested k ≡ false
+    → (k ≡ Null → ⊥) → (k ≡ Boolean → ⊥) → (k ≡ Int → ⊥) → (k ≡ Long → ⊥) → (k ≡ Float → ⊥) → (k ≡ Double → ⊥) → (k ≡ Bytes → ⊥) → (k ≡ String → ⊥) → (k ≡ Enum → ⊥) → (k ≡ Fixed → ⊥)
+    → false ≡ kind_fits t go k r rest p
+unfolding is_nested is_kind kind_fits
+no_values t go r rest p Null h a b c d e f g i j m = absurd (a refl)
+no_values t go r rest p Boolean h a b c d e f g i j m = absurd (b refl)
+no_values t go r rest p Int h a b c d e f g i j m = absurd (c refl)
+no_values t go r rest p Long h a b c d e f g i j m = absurd (d refl)
+no_values t go r rest p Float h a b c d e f g i j m = absurd (e refl)
+no_values t go r rest p Double h a b c d e f g i j m = absurd (f refl)
+no_values t go r rest p Bytes h a b c d e f g i j m = absurd (g refl)
+no_values t go r rest p String h a b c d e f g i j m = absurd (i refl)
+no_values t go r rest p Enum h a b c d e f g i j m = absurd (j refl)
+no_values t go r rest p Fixed h a b c d e f g i j m = absurd (m refl)
+no_values t go r rest p Array h a b c d e f g i j m = never (sym h)
+no_values t go r rest p Map h a b c d e f g i j m = never (sym h)
+no_values t go r rest p Record h a b c d e f g i j m = never (sym h)
+no_values t go r rest p Union h a b c d e f g i j m = refl
+no_values t go r rest p Reference h a b c d e f g i j m = refl
+no_values t go r rest p Field h a b c d e f g i j m = refl
+no_values t go r rest p Symbol h a b c d e f g i j m = refl
+no_values t go r rest p Alias h a b c d e f g i j m = refl
+no_values t go r rest p FieldAlias h a b c d e f g i j m = refl
 
 pub sized : (t : List ℕ) (p : ℕ) {x : Bool} {s size : ℕ} → s ≡ size → x ≡ is_fixed s t p → x ≡ is_fixed size t p
 sized t p e h = rw (← e) h

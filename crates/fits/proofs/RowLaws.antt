@@ -91,9 +91,9 @@ module _ (m : List ℕ) (n i : ℕ) where
   -- ---- a field's type
 
   module _ {x : List Row} (inv : type_of (type_at m n i) ≡ x) where
-    pub type_end : n ≤ i → type_at m n i ≡ x
+    pub type_end : n ≤ i → type_at m n n ≡ x
     unfolding type_of
-    type_end l = rows_end m i n l ∙ sym (ap type_of (rows_end m i n l)) ∙ inv
+    type_end l = rows_end m n n (omega arith) ∙ sym (ap type_of (rows_end m i n l)) ∙ inv
 
     module _ (l : i < n) {b : Bool} (e : b ≡ is_kind FieldAlias (entry_at m i).kind) where
       pub type_here : b ≡ false → type_at m n i ≡ x

@@ -8,18 +8,12 @@ ghost use Rattle.fits.specs.Steps.{type_at, Found};
 
 use resolve::definition_of;
 
-fn wide(e: u16) -> usize
-    ensures { result ≡ e }
-{
-    e as usize
-}
-
 // What the table holds for a row, 0 where it holds nothing.
 fn held(found: &[u16], row: usize) -> usize
     ensures { result ≡ get_or found.now row 0 }
 {
     if row < found.len() {
-        return wide(found[row]);
+        return usize::from(found[row]);
     }
     0
 }

@@ -21,10 +21,7 @@ fn is_of_enum(mem: &[u8], n: usize, text: &[u8], ends: &[u16], row: usize, at: u
     requires { (length mem.now ≡ layout_length) × (n ≤ row_limit) × (row < n) × Known text.now ends.now }
     ensures { result ≡ (is_string text.now at && some (is_symbol (string_at text.now at)) (parts_under (entry_at mem.now row).depth (type_at mem.now n (row + 1)))) }
 {
-    if is_string(text, at) {
-        return has_symbol(mem, n, row + 1, depth_at(mem, row), text, ends, at);
-    }
-    false
+    is_string(text, at) && has_symbol(mem, n, row + 1, depth_at(mem, row), text, ends, at)
 }
 
 // Does the value at `at` fit the type at a row, of a kind that has no values inside?
@@ -37,20 +34,11 @@ pub fn leaf(mem: &[u8], n: usize, text: &[u8], ends: &[u16], row: usize, at: usi
         Kind::Boolean => is_boolean(text, at),
         Kind::Int => is_whole(text, at, 2147483648),
         Kind::Long => is_whole(text, at, 9223372036854775808),
-        Kind::Float => is_number(text, at),
-        Kind::Double => is_number(text, at),
+        Kind::Float | Kind::Double => is_number(text, at),
         Kind::Bytes => is_bytes(text, at),
         Kind::String => is_string(text, at),
         Kind::Fixed => is_fixed(text, at, size_at(mem, row)),
         Kind::Enum => is_of_enum(mem, n, text, ends, row, at),
-        Kind::Array => false,
-        Kind::Map => false,
-        Kind::Record => false,
-        Kind::Union => false,
-        Kind::Reference => false,
-        Kind::Field => false,
-        Kind::Symbol => false,
-        Kind::Alias => false,
-        Kind::FieldAlias => false,
+        _ => false,
     }
 }

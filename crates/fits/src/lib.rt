@@ -25,15 +25,11 @@ use walk::fits_at;
 
 // Has the text's value a value inside? It has none where its first byte is no bracket, or its second closes that.
 fn is_deep(text: &[u8]) -> bool {
-    let first = byte_at(text, 0);
-    let second = byte_at(text, 1);
-    if first == b'[' {
-        return second != b']';
+    match byte_at(text, 0) {
+        b'[' => byte_at(text, 1) != b']',
+        b'{' => byte_at(text, 1) != b'}',
+        _ => false,
     }
-    if first == b'{' {
-        return second != b'}';
-    }
-    false
 }
 
 // With no table of verdicts.
@@ -48,8 +44,8 @@ fn without_table(mem: &[u8], n: usize, row: usize, text: &[u8], found: &mut [u16
     fits_at(mem, n, text, &ends, &mut verdicts, found, left, row, 0)
 }
 
-// With a table of verdicts for few rows and places, for more, and for all.
-fn with_small(
+// With a table of N verdicts.
+fn with_table<const N: usize>(
     mem: &[u8],
     n: usize,
     row: usize,
@@ -57,45 +53,11 @@ fn with_small(
     ends: &[u16],
     found: &mut [u16],
 ) -> bool
-    requires { (length mem.now ≡ layout_length) × (n ≤ row_limit) × Known text.now ends.now × Found mem.now n found.old }
+    requires { (length mem.now ≡ layout_length) × (n ≤ row_limit) × Known text.now ends.now × Found mem.now n found.old × (N ≤ 262144) }
     ensures { (result ≡ fits (rows_from mem.now n 0) text.now (suc deepest) (rows_from mem.now (n - row) row) 0)
         × Found mem.now n found.new }
 {
-    let mut verdicts: [u8; 4096] = [0; 4096];
-    let left = Scan::NESTING + 1;
-    fits_at(mem, n, text, ends, &mut verdicts, found, left, row, 0)
-}
-
-fn with_middle(
-    mem: &[u8],
-    n: usize,
-    row: usize,
-    text: &[u8],
-    ends: &[u16],
-    found: &mut [u16],
-) -> bool
-    requires { (length mem.now ≡ layout_length) × (n ≤ row_limit) × Known text.now ends.now × Found mem.now n found.old }
-    ensures { (result ≡ fits (rows_from mem.now n 0) text.now (suc deepest) (rows_from mem.now (n - row) row) 0)
-        × Found mem.now n found.new }
-{
-    let mut verdicts: [u8; 32768] = [0; 32768];
-    let left = Scan::NESTING + 1;
-    fits_at(mem, n, text, ends, &mut verdicts, found, left, row, 0)
-}
-
-fn with_large(
-    mem: &[u8],
-    n: usize,
-    row: usize,
-    text: &[u8],
-    ends: &[u16],
-    found: &mut [u16],
-) -> bool
-    requires { (length mem.now ≡ layout_length) × (n ≤ row_limit) × Known text.now ends.now × Found mem.now n found.old }
-    ensures { (result ≡ fits (rows_from mem.now n 0) text.now (suc deepest) (rows_from mem.now (n - row) row) 0)
-        × Found mem.now n found.new }
-{
-    let mut verdicts: [u8; 262144] = [0; 262144];
+    let mut verdicts: [u8; N] = [0; N];
     let left = Scan::NESTING + 1;
     fits_at(mem, n, text, ends, &mut verdicts, found, left, row, 0)
 }
@@ -110,12 +72,12 @@ fn with_tables(mem: &[u8], n: usize, row: usize, text: &[u8], found: &mut [u16])
     find_ends(text, &mut ends);
     let size = text.len() * n;
     if size <= 4096 {
-        return with_small(mem, n, row, text, &ends, found);
+        return with_table::<4096>(mem, n, row, text, &ends, found);
     }
     if size <= 32768 {
-        return with_middle(mem, n, row, text, &ends, found);
+        return with_table::<32768>(mem, n, row, text, &ends, found);
     }
-    with_large(mem, n, row, text, &ends, found)
+    with_table::<262144>(mem, n, row, text, &ends, found)
 }
 
 // Does the value that is the text fit the type at a row, of the first n rows? No text that is kept has more than 255 bytes; one
@@ -125,10 +87,7 @@ pub fn fits(mem: &[u8], n: usize, row: usize, text: &[u8], found: &mut [u16]) ->
     ensures { (result ≡ fits (rows_from mem.now n 0) text.now (suc deepest) (rows_from mem.now (n - row) row) 0)
         × Found mem.now n found.new }
 {
-    if PLACES < text.len() {
-        return without_table(mem, n, row, text, found);
-    }
-    if is_deep(text) {
+    if text.len() <= PLACES && is_deep(text) {
         return with_tables(mem, n, row, text, found);
     }
     without_table(mem, n, row, text, found)

@@ -19,12 +19,10 @@ pub fn has_defaults(mem: &[u8], start: usize, n: usize) -> bool
     ensures { result ≡ some has_default (rows_from mem.now n start) }
 {
     let end = start + n;
-    let mut i = start;
-    while i < end {
+    for i in start..end {
         if has_default(mem, i) {
             return true;
         }
-        i += 1;
     }
     false
 }
@@ -50,15 +48,13 @@ pub fn first_misfit(mem: &[u8], start: usize, n: usize) -> Result<(), Fault>
 {
     let mut found: [u16; Counts::ROWS] = [0; Counts::ROWS];
     let end = start + n;
-    let mut i = start;
-    while i < end {
+    for i in start..end {
         if !default_fits(mem, end, i, &mut found) {
             return Err(Fault {
                 why: Why::DefaultDoesNotFit,
                 at: size_at(mem, i) as usize,
             });
         }
-        i += 1;
     }
     Ok(())
 }

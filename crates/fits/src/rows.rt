@@ -1,32 +1,34 @@
 // Types by the numbers of their rows.
 ghost use Rattle.std.specs.Prelude.{◌≡◌, ◌+◌, ◌≤◌, ◌<◌, length};
 ghost use Rattle.row.specs.Layout.{row_limit, layout_length};
-ghost use Rattle.row.specs.Kinds.{kind_number};
-ghost use Rattle.row.specs.Memory.{row_at};
-ghost use Rattle.row.specs.declared.kind.Kind.{Kind};
+ghost use Rattle.row.specs.Memory.{entry_at, row_at};
 ghost use Rattle.view.specs.Known.{Known};
 ghost use Rattle.view.specs.Strings.{string_at};
+ghost use Rattle.resolve.specs.Kinds.{is_kind};
 ghost use Rattle.resolve.specs.Rules.{some};
 ghost use Rattle.fits.specs.Types.{parts_under, type_of, has_default};
 ghost use Rattle.fits.specs.Fits.{is_symbol};
 ghost use Rattle.fits.specs.Steps.{is_nested, type_at, parts_from};
 
-use resolve::is_kind;
 use row::Kind;
-use row::read::{default_of, depth_at, kind_number, string_of};
+use row::read::{default_of, depth_at, kind_at, string_of};
 use view::string_is;
 
-// Are there values inside the values of a kind?
-pub fn is_nested(kind: u8) -> bool
-    ensures { (k : Kind) → kind ≡ kind_number k → result ≡ is_nested k }
+// Is row i of a kind?
+#[tactic(auto, unfolding(resolve::specs::Kinds::is_kind))]
+pub fn is_of(mem: &[u8], i: usize, kind: Kind) -> bool
+    requires { (length mem.now ≡ layout_length) × (i < row_limit) }
+    ensures { result ≡ is_kind kind (entry_at mem.now i).kind }
 {
-    if is_kind(Kind::Array, kind) {
-        return true;
-    }
-    if is_kind(Kind::Map, kind) {
-        return true;
-    }
-    is_kind(Kind::Record, kind)
+    kind_at(mem, i) == kind
+}
+
+// Are there values inside the values of a kind?
+#[tactic(auto, unfolding(crate::specs::Steps::is_nested, resolve::specs::Kinds::is_kind))]
+pub fn is_nested(kind: Kind) -> bool
+    ensures { result ≡ is_nested kind }
+{
+    matches!(kind, Kind::Array | Kind::Map | Kind::Record)
 }
 
 // The row of the type among the rows behind a field, which start at a place.
@@ -34,14 +36,12 @@ pub fn type_row(mem: &[u8], n: usize, start: usize) -> usize
     requires { (length mem.now ≡ layout_length) × (n ≤ row_limit) }
     ensures { type_at mem.now n result ≡ type_of (type_at mem.now n start) }
 {
-    let mut i = start;
-    while i < n {
-        if !is_kind(Kind::FieldAlias, kind_number(mem, i)) {
+    for i in start..n {
+        if !is_of(mem, i, Kind::FieldAlias) {
             return i;
         }
-        i += 1;
     }
-    i
+    n
 }
 
 // Has the field at row i a default of its own?
@@ -49,7 +49,7 @@ pub fn has_default(mem: &[u8], i: usize) -> bool
     requires { (length mem.now ≡ layout_length) × (i < row_limit) }
     ensures { result ≡ has_default (row_at mem.now i) }
 {
-    default_of(mem, i).len() != 0
+    !default_of(mem, i).is_empty()
 }
 
 // Is row i a symbol, and the string at `at` the symbol?
@@ -57,10 +57,7 @@ fn is_symbol(mem: &[u8], n: usize, i: usize, text: &[u8], ends: &[u16], at: usiz
     requires { (length mem.now ≡ layout_length) × (i < n) × (n ≤ row_limit) × Known text.now ends.now }
     ensures { result ≡ is_symbol (string_at text.now at) (type_at mem.now n i) }
 {
-    if is_kind(Kind::Symbol, kind_number(mem, i)) {
-        return string_is(text, ends, at, string_of(mem, i));
-    }
-    false
+    is_of(mem, i, Kind::Symbol) && string_is(text, ends, at, string_of(mem, i))
 }
 
 // The next row, from a place on, that stands directly under a row of a depth, of those that stand under it; n where there is none.
@@ -68,8 +65,7 @@ pub fn next_part(mem: &[u8], n: usize, start: usize, depth: usize) -> usize
     requires { (length mem.now ≡ layout_length) × (n ≤ row_limit) × (start ≤ n) × (depth < 65536) }
     ensures { (start ≤ result) × (result ≤ n) × (parts_from mem.now n depth result ≡ parts_under depth (type_at mem.now n start)) }
 {
-    let mut i = start;
-    while i < n {
+    for i in start..n {
         let d = depth_at(mem, i);
         if d <= depth {
             return n;
@@ -77,7 +73,6 @@ pub fn next_part(mem: &[u8], n: usize, start: usize, depth: usize) -> usize
         if d == depth + 1 {
             return i;
         }
-        i += 1;
     }
     n
 }

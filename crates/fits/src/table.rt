@@ -3,12 +3,6 @@ ghost use Rattle.std.specs.Prelude.{◌≡◌, ◌≤◌, ◌<◌};
 ghost use Rattle.row.specs.Layout.{row_limit};
 ghost use Rattle.fits.specs.Steps.{entry_at, noted};
 
-fn wide(x: u8) -> usize
-    ensures { (result ≡ x) × (result < 256) }
-{
-    x as usize
-}
-
 // The places of values that a table has room for.
 pub const PLACES: usize = 256;
 
@@ -17,17 +11,14 @@ pub fn asked(table: &[u8], n: usize, row: usize, at: usize) -> usize
     requires { n ≤ row_limit }
     ensures { result ≡ entry_at n table.now row at }
 {
-    if n <= row {
-        return 0;
-    }
-    if PLACES <= at {
+    if n <= row || PLACES <= at {
         return 0;
     }
     let i = at * n + row;
     if table.len() <= i {
         return 0;
     }
-    wide(table[i])
+    usize::from(table[i])
 }
 
 // Notes it, where there is room.
@@ -35,10 +26,7 @@ pub fn note(table: &mut [u8], n: usize, row: usize, at: usize, v: usize)
     requires { (n ≤ row_limit) × (v < 256) }
     ensures { table.new ≡ noted n table.old row at v }
 {
-    if n <= row {
-        return;
-    }
-    if PLACES <= at {
+    if n <= row || PLACES <= at {
         return;
     }
     let i = at * n + row;

@@ -17,11 +17,10 @@ ghost use Rattle.fits.specs.Steps.{is_nested, type_at, fitting, Verdicts, Found}
 
 use crate::definitions::definition;
 use crate::leaves::leaf;
-use crate::rows::{has_default, is_nested, next_part, type_row};
+use crate::rows::{has_default, is_nested, is_of, next_part, type_row};
 use crate::table::{asked, note};
-use resolve::is_kind;
 use row::Kind;
-use row::read::{depth_at, kind_number, string_of};
+use row::read::{depth_at, kind_at, string_of};
 use values::{is_array, is_object, under_key, under_word};
 use view::{Member, first_element, first_member, next_element, next_member};
 
@@ -105,7 +104,7 @@ fn field(
     ensures { (result ≡ field_fits text.now (fitting mem.now n text.now left) at (type_at mem.now n row))
         × Verdicts mem.now n text.now verdicts.new × Found mem.now n found.new }
 {
-    if !is_kind(Kind::Field, kind_number(mem, row)) {
+    if !is_of(mem, row, Kind::Field) {
         return true;
     }
     let Some(v) = under_word(text, ends, at, string_of(mem, row)) else {
@@ -163,11 +162,10 @@ fn nested(
     ensures { (result ≡ plain_fits text.now (fitting mem.now n text.now left) (type_at mem.now n row) at)
         × Verdicts mem.now n text.now verdicts.new × Found mem.now n found.new }
 {
-    let kind = kind_number(mem, row);
-    if is_kind(Kind::Array, kind) {
+    if is_of(mem, row, Kind::Array) {
         return array(mem, n, text, ends, verdicts, found, left, row + 1, at);
     }
-    if is_kind(Kind::Map, kind) {
+    if is_of(mem, row, Kind::Map) {
         return map(mem, n, text, ends, verdicts, found, left, row + 1, at);
     }
     record_of(mem, n, text, ends, verdicts, found, left, row, at)
@@ -193,7 +191,7 @@ fn plain(
     if n <= row {
         return false;
     }
-    if !is_nested(kind_number(mem, row)) {
+    if !is_nested(kind_at(mem, row)) {
         return leaf(mem, n, text, ends, row, at);
     }
     let no = left * 2 + 1;
@@ -230,7 +228,7 @@ fn one(
     ensures { (result ≡ one_fits (rows_from mem.now n 0) text.now (fitting mem.now n text.now left) at (type_at mem.now n row))
         × Verdicts mem.now n text.now verdicts.new × Found mem.now n found.new }
 {
-    if is_kind(Kind::Reference, kind_number(mem, row)) {
+    if is_of(mem, row, Kind::Reference) {
         let defined = definition(mem, n, found, row);
         return plain(mem, n, text, ends, verdicts, found, left, defined, at);
     }
@@ -285,7 +283,7 @@ fn any(
     if n <= row {
         return false;
     }
-    if is_kind(Kind::Union, kind_number(mem, row)) {
+    if is_of(mem, row, Kind::Union) {
         return some_one(mem, n, text, ends, verdicts, found, left, row, at);
     }
     one(mem, n, text, ends, verdicts, found, left, row, at)

@@ -10,7 +10,7 @@ use native.Mathlib.Omega.{arith}
 use native.Mathlib.Decide.{dec_lt, dec_le}
 use lib.ListN.{length, take, drop, length-append, length-drop, drop_of_length-le, take-append-drop}
 use lib.Seq.{drop-drop, take_all, take-nil, take-append-le, take-append-add, length-take-le}
-use borrow.Author.Tests.{eq-eqb, ne_eqb}
+use lib.Dec.{eqb}
 use Rattle.answer.specs.declared.refusal.Why.TheVariants.{NotWellFormed, NoSuchPlace}
 use Rattle.answer.proofs.Laws.{first, refusal_one, never_both}
 use Rattle.ground.specs.Bytes.{part}
@@ -238,13 +238,13 @@ module _ (m : List ℕ) (place row : ℕ) where
   naming_not w g = rw w (ap numbers_of_naming g)
 
   module _ (w : well_formed m ≡ true) (x : List ℕ) (e : x ≡ name_in (decode m) place row) where
-    pub naming_none : length x ≡ 0 → {r : Answer ℕ} → r ≡ refused_name NoSuchPlace place → numbers_of_naming r ≡ naming_of m place row
+    pub naming_none : eqb (length x) 0 ≡ true → {r : Answer ℕ} → r ≡ refused_name NoSuchPlace place → numbers_of_naming r ≡ naming_of m place row
     unfolding naming_of
-    naming_none h g = rw (w, ← e, ← no_bytes x, eq-eqb (length x) 0 h) (ap numbers_of_naming g)
+    naming_none h g = rw (w, ← e, ← no_bytes x, h) (ap numbers_of_naming g)
 
-    pub naming_done : (length x ≡ 0 → ⊥) → numbers_of_naming (Ok (length x)) ≡ naming_of m place row
+    pub naming_done : eqb (length x) 0 ≡ false → numbers_of_naming (Ok (length x)) ≡ naming_of m place row
     unfolding naming_of
-    naming_done h = rw (w, ← e, ← no_bytes x, ne_eqb (length x) 0 h)
+    naming_done h = rw (w, ← e, ← no_bytes x, h)
 
 -- the numbers tell the answer
 pub naming_one : (a b : Answer ℕ) → numbers_of_naming a ≡ numbers_of_naming b → a ≡ b

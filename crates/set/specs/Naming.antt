@@ -1,8 +1,8 @@
 -- The full name of a row, by the place of its declaration and its number there, from 0, and where it lies in memory.
 -- Assumes nothing.
-use Rattle.std.specs.Prelude.{ℕ, zero, suc, ◌+◌, Bool, cond, ◌||◌, List, [], ◌∷◌, length, Ok, Err}
+use Rattle.std.specs.Prelude.{ℕ, zero, suc, ◌+◌, Bool, cond, ◌||◌, List, [], ◌∷◌, length}
 use Rattle.answer.specs.declared.numbers.Numbers.{Numbers}
-use Rattle.answer.specs.Answers.{accepted, refused, of_refusal, Answer, numbers_of_value}
+use Rattle.answer.specs.Answers.{accepted, refused, Answer, numbers_of_value}
 use Rattle.name.specs.Name.{is_empty}
 use Rattle.row.specs.Layout.{strings_start}
 use Rattle.row.specs.Rows.{Row, strings_of, texts}

@@ -3,7 +3,6 @@ ghost use Rattle.std.specs.Prelude.{◌≡◌, true, ◌<◌, length};
 ghost use Rattle.row.specs.Layout.{row_limit, strings_start, layout_length};
 ghost use Rattle.row.specs.Sets.{decode};
 ghost use Rattle.row.specs.Memory.{behind};
-ghost use Rattle.resolve.specs.Kinds.{is_kind};
 ghost use Rattle.formed.specs.WellFormed.{well_formed};
 ghost use Rattle.set.specs.Naming.{has_full_name, name_in, full_name_in, start_in, full_name_start, numbers_of_naming, naming_of};
 ghost use Rattle.set.specs.Steps.{row_name, row_name_start};
@@ -14,29 +13,15 @@ use formed::well_formed;
 use row::Kind;
 use row::read::{declarations, kind_at, rows_before, rows_of, string_of};
 
-fn is_kind(kind: Kind, k: Kind) -> bool
-    ensures { result ≡ is_kind kind k }
-{
-    k.number() == kind.number()
-}
-
 // Definitions, their aliases and references have a full name.
+#[tactic(auto, unfolding(crate::specs::Naming::has_full_name, resolve::specs::Kinds::is_named, resolve::specs::Kinds::is_definition, resolve::specs::Kinds::is_kind))]
 fn has_full_name(k: Kind) -> bool
     ensures { result ≡ has_full_name k }
 {
-    if is_kind(Kind::Record, k) {
-        return true;
-    }
-    if is_kind(Kind::Enum, k) {
-        return true;
-    }
-    if is_kind(Kind::Fixed, k) {
-        return true;
-    }
-    if is_kind(Kind::Reference, k) {
-        return true;
-    }
-    is_kind(Kind::Alias, k)
+    matches!(
+        k,
+        Kind::Record | Kind::Enum | Kind::Fixed | Kind::Reference | Kind::Alias
+    )
 }
 
 // The full name of row i of the memory, no bytes where it has none.
@@ -56,10 +41,7 @@ fn name_at(mem: &[u8], place: usize, row: usize) -> &[u8]
     ensures { (result.now ≡ name_in (decode mem.now) place row)
         × (result.ref_ptr ≡ behind mem.entry.ref_ptr (start_in strings_start (decode mem.now) place row)) }
 {
-    if declarations(mem) <= place {
-        return &mem[0..0];
-    }
-    if rows_of(mem, place) <= row {
+    if declarations(mem) <= place || rows_of(mem, place) <= row {
         return &mem[0..0];
     }
     name_of(mem, rows_before(mem, place) + row)
@@ -85,7 +67,7 @@ pub fn naming_of(mem: &[u8], place: usize, row: usize) -> Answer<usize>
         return refused(Why::NotWellFormed, place);
     }
     let name = name_at(mem, place, row);
-    if name.len() == 0 {
+    if name.is_empty() {
         return refused(Why::NoSuchPlace, place);
     }
     Ok(name.len())

@@ -1,12 +1,12 @@
 -- What a value is by its first byte, whole numbers, and the characters of a string, as the code's tests have them.
 -- Assumes nothing.
 use Rattle.std.specs.Prelude.{Option, Some, None}
-use mathlib.Core.Path.{◌≡◌, refl, sym, ap, ◌∙◌}
+use mathlib.Core.Path.{◌≡◌, sym, ap, ◌∙◌}
 use mathlib.Core.Bool.{Bool, true, false, cond}
 use mathlib.Core.List.{List, [], ◌∷◌}
 use Prim.Native.Nat.{ℕ, suc, ◌+◌, ◌-◌, ◌<◌, ◌≤◌}
 use native.Mathlib.Omega.{arith}
-use lib.Dec.{eqb, leb, ltb}
+use lib.Dec.{ltb}
 use lib.ListN.{length}
 use borrow.Author.Tests.{eq-eqb, ne_eqb, lt-ltb, le-ltb, le-leb, lt-leb}
 use Rattle.ground.specs.Bytes.{byte_at}
@@ -15,34 +15,11 @@ use Rattle.view.specs.Strings.{string_at, left_of, Reads}
 use Rattle.view.specs.declared.strings.Cursor.{Cursor}
 use Rattle.view.proofs.Laws.{string_short, read_end, read_byte}
 use Rattle.values.specs.Steps.{narrow_size}
-use Rattle.values.specs.Values.{is_boolean, is_number, is_string, up_to, is_whole, goes_on, characters, is_narrow, is_bytes, is_fixed}
+use Rattle.values.specs.Values.{up_to, is_whole, goes_on, characters, is_narrow}
 
--- ---- by the first byte
+-- ---- whole numbers, by the first byte
 
 module _ (t : List ℕ) (p : ℕ) {b : ℕ} (e : b ≡ byte_at t p) where
-  pub boolean_true : b ≡ 116 → true ≡ is_boolean t p
-  unfolding is_boolean
-  boolean_true f = rw (← e, eq-eqb b 116 f)
-
-  pub boolean_other : (b ≡ 116 → ⊥) → eqb b 102 ≡ is_boolean t p
-  unfolding is_boolean
-  boolean_other f = rw (← e, ne_eqb b 116 f)
-
-  pub number_minus : b ≡ 45 → true ≡ is_number t p
-  unfolding is_number
-  number_minus f = rw (← e, eq-eqb b 45 f)
-
-  module _ (f : b ≡ 45 → ⊥) where
-    pub number_digit : 48 ≤ b → leb b 57 ≡ is_number t p
-    unfolding is_number
-    number_digit h = rw (← e, ne_eqb b 45 f, le-leb 48 b h)
-
-    pub number_none : b < 48 → false ≡ is_number t p
-    unfolding is_number
-    number_none h = rw (← e, ne_eqb b 45 f, lt-leb 48 b h)
-
-  -- ---- whole numbers
-
   module _ (half : ℕ) {s : Option ℕ} {x : Bool} where
     pub whole_minus : b ≡ 45 → s ≡ size_of t (p + 1) → x ≡ up_to half s → x ≡ is_whole half t p
     unfolding is_whole
@@ -51,14 +28,6 @@ module _ (t : List ℕ) (p : ℕ) {b : ℕ} (e : b ≡ byte_at t p) where
     pub whole_digits : (b ≡ 45 → ⊥) → s ≡ size_of t p → x ≡ up_to (half - 1) s → x ≡ is_whole half t p
     unfolding is_whole
     whole_digits f g h = rw (← e, ne_eqb b 45 f, ← g) h
-
-pub up_to_value : (n v : ℕ) {s : Option ℕ} → s ≡ Some v → leb v n ≡ up_to n s
-unfolding up_to
-up_to_value n v e = rw e
-
-pub up_to_none : (n : ℕ) {s : Option ℕ} → s ≡ None → false ≡ up_to n s
-unfolding up_to
-up_to_none n e = rw e
 
 -- ---- the characters of a string
 
@@ -125,46 +94,3 @@ narrow_all s n e f = rw (← e, f)
 pub narrow_not : (s : List ℕ) → false ≡ is_narrow s → None ≡ narrow_size s
 unfolding narrow_size
 narrow_not s e = rw (← e)
-
--- what the size tells of the string
-is_narrow_lem : (s : List ℕ) (n : ℕ) → Some n ≡ narrow_size s → (is_narrow s ≡ true) × (n ≡ characters s)
-unfolding narrow_size
-is_narrow_lem s n e = go (is_narrow s) e
-  where
-    go : (b : Bool) → Some n ≡ cond b (Some (characters s)) None → (b ≡ true) × (n ≡ characters s)
-    go true e = (refl, cc)
-    go false e = let z : ◌≡◌ {A = ℕ} 0 1 = cc in absurd (omega arith)
-
-is_wide : (s : List ℕ) → None ≡ narrow_size s → is_narrow s ≡ false
-unfolding narrow_size
-is_wide s e = go (is_narrow s) e
-  where
-    go : (b : Bool) → None ≡ cond b (Some (characters s)) None → b ≡ false
-    go true e = cc
-    go false e = refl
-
-module _ (t : List ℕ) (p : ℕ) {a : Bool} (e : a ≡ is_string t p) where
-  pub bytes_none : a ≡ false → false ≡ is_bytes t p
-  unfolding is_bytes
-  bytes_none f = rw (← e, f)
-
-  pub fixed_none : a ≡ false → (size : ℕ) → false ≡ is_fixed size t p
-  unfolding is_fixed
-  fixed_none f size = rw (← bytes_none f)
-
-  module _ (f : a ≡ true) {s : Option ℕ} (h : s ≡ narrow_size (string_at t p)) where
-    pub bytes_narrow : {n : ℕ} → s ≡ Some n → true ≡ is_bytes t p
-    unfolding is_bytes
-    bytes_narrow {n} g = rw (← e, f, (is_narrow_lem (string_at t p) n (sym g ∙ h)).0)
-
-    pub bytes_wide : s ≡ None → false ≡ is_bytes t p
-    unfolding is_bytes
-    bytes_wide g = rw (← e, f, is_wide (string_at t p) (sym g ∙ h))
-
-    pub fixed_narrow : {n : ℕ} → s ≡ Some n → (size : ℕ) → eqb n size ≡ is_fixed size t p
-    unfolding is_fixed
-    fixed_narrow {n} g size = rw (← bytes_narrow g, (is_narrow_lem (string_at t p) n (sym g ∙ h)).1)
-
-    pub fixed_wide : s ≡ None → (size : ℕ) → false ≡ is_fixed size t p
-    unfolding is_fixed
-    fixed_wide g size = rw (← bytes_wide g)

@@ -1,20 +1,10 @@
 // The value under a key of an object: of several the last counts.
-ghost use Rattle.std.specs.Prelude.{◌≡◌, cond, Some};
+ghost use Rattle.std.specs.Prelude.{◌≡◌};
 ghost use Rattle.view.specs.Known.{Known};
 ghost use Rattle.view.specs.Strings.{string_at};
 ghost use Rattle.view.specs.Members.{member};
 
 use view::{Member, first_member, next_member, string_is, strings_same};
-
-// The value, where the key is the one looked for; else what was found before.
-fn found_if(is: bool, value: usize, found: Option<usize>) -> Option<usize>
-    ensures { result ≡ cond is (Some value) found }
-{
-    if is {
-        return Some(value);
-    }
-    found
-}
 
 // The value under the word in the object at `at`.
 pub fn under_word(text: &[u8], ends: &[u16], at: usize, word: &[u8]) -> Option<usize>
@@ -24,8 +14,9 @@ pub fn under_word(text: &[u8], ends: &[u16], at: usize, word: &[u8]) -> Option<u
     let mut found = None;
     let mut entry = first_member(text, ends, at);
     while let Some(Member { key, value }) = entry {
-        let is = string_is(text, ends, key, word);
-        found = found_if(is, value, found);
+        if string_is(text, ends, key, word) {
+            found = Some(value);
+        }
         entry = next_member(text, ends, value);
     }
     found
@@ -39,8 +30,9 @@ pub fn under_key(text: &[u8], ends: &[u16], at: usize, place: usize) -> Option<u
     let mut found = None;
     let mut entry = first_member(text, ends, at);
     while let Some(Member { key, value }) = entry {
-        let is = strings_same(text, ends, key, place);
-        found = found_if(is, value, found);
+        if strings_same(text, ends, key, place) {
+            found = Some(value);
+        }
         entry = next_member(text, ends, value);
     }
     found

@@ -13,24 +13,18 @@ pub fn is_null(text: &[u8], at: usize) -> bool
     byte_at(text, at) == b'n'
 }
 
+#[tactic(auto, unfolding(crate::specs::Values::is_boolean))]
 pub fn is_boolean(text: &[u8], at: usize) -> bool
     ensures { result ≡ is_boolean text.now at }
 {
-    let b = byte_at(text, at);
-    if b == b't' {
-        return true;
-    }
-    b == b'f'
+    matches!(byte_at(text, at), b't' | b'f')
 }
 
+#[tactic(auto, unfolding(crate::specs::Values::is_number))]
 pub fn is_number(text: &[u8], at: usize) -> bool
     ensures { result ≡ is_number text.now at }
 {
-    let b = byte_at(text, at);
-    if b == b'-' {
-        return true;
-    }
-    if b'0' <= b { b <= b'9' } else { false }
+    matches!(byte_at(text, at), b'-' | b'0'..=b'9')
 }
 
 pub fn is_string(text: &[u8], at: usize) -> bool
@@ -51,13 +45,11 @@ pub fn is_object(text: &[u8], at: usize) -> bool
     byte_at(text, at) == b'{'
 }
 
+#[tactic(auto, unfolding(crate::specs::Values::up_to))]
 fn up_to(most: u64, size: Option<u64>) -> bool
     ensures { result ≡ up_to most size }
 {
-    match size {
-        Some(v) => v <= most,
-        None => false,
-    }
+    size.is_some_and(|v| v <= most)
 }
 
 // A whole number from -half up to half - 1.
@@ -71,10 +63,11 @@ pub fn is_whole(text: &[u8], at: usize, half: u64) -> bool
     up_to(half - 1, size_literal(text, at))
 }
 
+#[tactic(auto, unfolding(crate::specs::Values::goes_on))]
 fn goes_on(b: u8) -> bool
     ensures { result ≡ goes_on b }
 {
-    if b < 0x80 { false } else { b < 0xc0 }
+    matches!(b, 0x80..=0xbf)
 }
 
 // How many characters the string at `at` has, if each is one up to U+00FF.
@@ -96,26 +89,16 @@ fn narrow_size(text: &[u8], at: usize) -> Option<u64>
     Some(n)
 }
 
+#[tactic(auto, unfolding(crate::specs::Values::is_bytes, crate::specs::Steps::narrow_size))]
 pub fn is_bytes(text: &[u8], at: usize) -> bool
     ensures { result ≡ is_bytes text.now at }
 {
-    if is_string(text, at) {
-        return match narrow_size(text, at) {
-            Some(_) => true,
-            None => false,
-        };
-    }
-    false
+    is_string(text, at) && narrow_size(text, at).is_some()
 }
 
+#[tactic(auto, unfolding(crate::specs::Values::is_fixed, crate::specs::Values::is_bytes, crate::specs::Steps::narrow_size))]
 pub fn is_fixed(text: &[u8], at: usize, size: u64) -> bool
     ensures { result ≡ is_fixed size text.now at }
 {
-    if is_string(text, at) {
-        return match narrow_size(text, at) {
-            Some(n) => n == size,
-            None => false,
-        };
-    }
-    false
+    is_string(text, at) && narrow_size(text, at) == Some(size)
 }

@@ -1,10 +1,10 @@
 -- `fits::leaves::leaf` meets its contract: an arm for each kind.
 -- Assumes nothing.
-use mathlib.Core.Path.{refl}
-use Rattle.fits.proofs.FitLaws.{plain_kind, no_leaf, sized}
+use mathlib.Core.Path.{refl, ap, ◌∙◌}
+use mathlib.Core.Logic.{inl, inr}
+use Rattle.fits.proofs.FitLaws.{plain_kind, no_values, sized}
 use Rattle.fits.specs.Fits.{kind_fits}
 use Rattle.fits.specs.Steps.{is_nested}
-use Rattle.resolve.specs.Kinds.{is_kind}
 use Rattle.fits.proofs.leaves.leaf.Goals as goal
 
 pub returns-in-Null : goal.returns-in-Null
@@ -23,14 +23,6 @@ pub returns-in-Long : goal.returns-in-Long
 unfolding kind_fits
 returns-in-Long c = λ go h. plain_kind _ _ _ _ _ c.requires.2 c.kind_at.ensures c.in-Long.is go c.is_whole-in-Long.ensures
 
-pub returns-in-Float : goal.returns-in-Float
-unfolding kind_fits
-returns-in-Float c = λ go h. plain_kind _ _ _ _ _ c.requires.2 c.kind_at.ensures c.in-Float.is go c.is_number.ensures
-
-pub returns-in-Double : goal.returns-in-Double
-unfolding kind_fits
-returns-in-Double c = λ go h. plain_kind _ _ _ _ _ c.requires.2 c.kind_at.ensures c.in-Double.is go c.is_number-in-Double.ensures
-
 pub returns-in-Bytes : goal.returns-in-Bytes
 unfolding kind_fits
 returns-in-Bytes c = λ go h. plain_kind _ _ _ _ _ c.requires.2 c.kind_at.ensures c.in-Bytes.is go c.is_bytes.ensures
@@ -47,38 +39,13 @@ pub returns-in-Enum : goal.returns-in-Enum
 unfolding kind_fits
 returns-in-Enum c = λ go h. plain_kind _ _ _ _ _ c.requires.2 c.kind_at.ensures c.in-Enum.is go c.is_of_enum.ensures
 
-pub returns-in-Array : goal.returns-in-Array
-unfolding is_nested is_kind
-returns-in-Array c = λ go h. no_leaf c.kind_at.ensures c.in-Array.is refl h
-
-pub returns-in-Map : goal.returns-in-Map
-unfolding is_nested is_kind
-returns-in-Map c = λ go h. no_leaf c.kind_at.ensures c.in-Map.is refl h
-
-pub returns-in-Record : goal.returns-in-Record
-unfolding is_nested is_kind
-returns-in-Record c = λ go h. no_leaf c.kind_at.ensures c.in-Record.is refl h
-
-pub returns-in-Union : goal.returns-in-Union
+pub returns-in-Float : goal.returns-in-Float
 unfolding kind_fits
-returns-in-Union c = λ go h. plain_kind _ _ _ _ _ c.requires.2 c.kind_at.ensures c.in-Union.is go refl
+returns-in-Float c = λ go h.
+    elim c.in-Float.is [
+      | inl f ↦ plain_kind _ _ _ _ _ c.requires.2 c.kind_at.ensures f go c.is_number.ensures
+      | inr f ↦ plain_kind _ _ _ _ _ c.requires.2 c.kind_at.ensures f go c.is_number.ensures
+    ]
 
-pub returns-in-Reference : goal.returns-in-Reference
-unfolding kind_fits
-returns-in-Reference c = λ go h. plain_kind _ _ _ _ _ c.requires.2 c.kind_at.ensures c.in-Reference.is go refl
-
-pub returns-in-Field : goal.returns-in-Field
-unfolding kind_fits
-returns-in-Field c = λ go h. plain_kind _ _ _ _ _ c.requires.2 c.kind_at.ensures c.in-Field.is go refl
-
-pub returns-in-Symbol : goal.returns-in-Symbol
-unfolding kind_fits
-returns-in-Symbol c = λ go h. plain_kind _ _ _ _ _ c.requires.2 c.kind_at.ensures c.in-Symbol.is go refl
-
-pub returns-in-Alias : goal.returns-in-Alias
-unfolding kind_fits
-returns-in-Alias c = λ go h. plain_kind _ _ _ _ _ c.requires.2 c.kind_at.ensures c.in-Alias.is go refl
-
-pub returns-in-FieldAlias : goal.returns-in-FieldAlias
-unfolding kind_fits
-returns-in-FieldAlias c = λ go h. plain_kind _ _ _ _ _ c.requires.2 c.kind_at.ensures c.in-FieldAlias.is go refl
+pub returns-in_default : goal.returns-in_default
+returns-in_default c = λ go h. plain_kind _ _ _ _ _ c.requires.2 c.kind_at.ensures refl go (no_values _ go _ _ _ c.kind_at.result (ap is_nested c.kind_at.ensures ∙ h) c.in_default.not-Null c.in_default.not-Boolean c.in_default.not-Int c.in_default.not-Long c.in_default.not-Float c.in_default.not-Double c.in_default.not-Bytes c.in_default.not-String c.in_default.not-Enum c.in_default.not-Fixed)

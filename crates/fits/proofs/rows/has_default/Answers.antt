@@ -9,4 +9,4 @@ use Rattle.fits.proofs.rows.has_default.Goals as goal
 
 pub returns : goal.returns
 unfolding has_default
-returns c = ap not (no_bytes _ ∙ ap is_empty c.default_of.ensures.0)
+returns c = ap not (c.is_empty.ensures ∙ no_bytes _ ∙ ap is_empty c.default_of.ensures.0)

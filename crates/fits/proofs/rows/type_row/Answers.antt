@@ -7,11 +7,11 @@ use Rattle.fits.proofs.rows.type_row.Goals as goal
 pub loop-i-init : goal.loop-i-init
 loop-i-init c = refl
 
-pub returns-then-not-is_kind : goal.returns-then-not-is_kind
-returns-then-not-is_kind c = type_here _ _ _ c.loop-i.invariant c.loop-i-test.true (c.is_kind.ensures _ c.kind_number.ensures) c.if-not-is_kind.true
+pub returns-then-not-is_of : goal.returns-then-not-is_of
+returns-then-not-is_of c = type_here _ _ _ c.loop-i.invariant c.loop-i-test.true c.is_of.ensures c.if-not-is_of.true
 
 pub loop-i-preserved : goal.loop-i-preserved
-loop-i-preserved c = type_on _ _ _ c.loop-i.invariant c.loop-i-test.true (c.is_kind.ensures _ c.kind_number.ensures) c.if-not-is_kind.false
+loop-i-preserved c = type_on _ _ _ c.loop-i.invariant c.loop-i-test.true c.is_of.ensures c.if-not-is_of.false
 
 pub returns : goal.returns
 returns c = type_end _ _ _ c.loop-i.invariant c.loop-i-test.false

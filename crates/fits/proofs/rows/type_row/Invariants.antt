@@ -1,6 +1,5 @@
 -- `fits::rows::type_row` meets its contract: the type behind the rows that are left is the type.
 -- Assumes nothing.
-use Prim.Native.Nat.{◌-◌}
 use mathlib.Core.Path.{◌≡◌}
 use Rattle.fits.specs.Types.{type_of}
 use Rattle.fits.specs.Steps.{type_at}
@@ -8,6 +7,3 @@ use Rattle.fits.proofs.rows.type_row.Given as goal
 
 abbrev pub invariant-loop-i : goal.invariant-loop-i
 invariant-loop-i l = type_of (type_at l.mem l.n l.i) ≡ type_of (type_at l.mem l.n l.start)
-
-abbrev pub decreases-loop-i : goal.decreases-loop-i
-decreases-loop-i l = l.n - l.i

@@ -1,8 +1,9 @@
 -- The walk of `fits::walk` meets its contracts: each way out is one law, each loop's answer for what is left is the answer, and
 -- tables that are true stay true.
 -- Assumes nothing.
-use mathlib.Core.Path.{refl, sym, ◌∙◌}
+use mathlib.Core.Path.{refl, sym, ap, ◌∙◌}
 use native.Mathlib.Omega.{arith}
+use Rattle.fits.specs.Steps.{is_nested}
 use Rattle.fits.proofs.TableLaws.{true_no, true_yes, noted_no, noted_yes}
 use Rattle.fits.proofs.RowLaws.{some_end, some_found, some_on, every_end, every_bad, every_on}
 use Rattle.fits.proofs.FitLaws.{then_true, then_false, each_start, each_done, each_bad, each_on, each_less, visit_start, visit_end, visit_bad, visit_on, member_none, member_value, plain_none, any_none, field_other, field_value, field_default, nested_array, nested_map, nested_record, one_reference, one_self, any_union, any_one, some_start, every_start, fits_none, fits_more}
@@ -15,14 +16,14 @@ any-returns-then-n-row t c = (any_none _ _ _ _ _ _ c.if-n-row.true, c.requires.3
 pub any-some_one-requires : goal.any-some_one-requires
 any-some_one-requires t c = (omega (arith, c.decreases), (c.requires.0, c.requires.1, c.requires.2, c.requires.3, c.requires.4, omega (arith, c.requires.5), c.if-n-row.false))
 
-pub any-returns-then-is_kind : goal.any-returns-then-is_kind
-any-returns-then-is_kind t c = (any_union _ _ _ _ _ _ c.if-n-row.false (c.is_kind.ensures _ c.kind_number.ensures) c.if-is_kind.true c.some_one.ensures.0, c.some_one.ensures.1, c.some_one.ensures.2)
+pub any-returns-then-is_of : goal.any-returns-then-is_of
+any-returns-then-is_of t c = (any_union _ _ _ _ _ _ c.if-n-row.false c.is_of.ensures c.if-is_of.true c.some_one.ensures.0, c.some_one.ensures.1, c.some_one.ensures.2)
 
 pub any-one-requires : goal.any-one-requires
 any-one-requires t c = (omega (arith, c.decreases), (c.requires.0, c.requires.1, c.requires.2, c.requires.3, c.requires.4, omega (arith, c.requires.5), c.if-n-row.false))
 
 pub any-returns : goal.any-returns
-any-returns t c = (any_one _ _ _ _ _ _ c.if-n-row.false (c.is_kind.ensures _ c.kind_number.ensures) c.if-is_kind.false c.one.ensures.0, c.one.ensures.1, c.one.ensures.2)
+any-returns t c = (any_one _ _ _ _ _ _ c.if-n-row.false c.is_of.ensures c.if-is_of.false c.one.ensures.0, c.one.ensures.1, c.one.ensures.2)
 
 pub array-returns-then-not-is_array : goal.array-returns-then-not-is_array
 array-returns-then-not-is_array t c = (then_false c.is_array.ensures c.if-not-is_array.true _, c.requires.3, c.requires.4)
@@ -51,17 +52,17 @@ array-loop-spot-smaller t c = each_less _ c.in-Some.is c.next_element-spot.ensur
 pub array-loop-spot-preserved : goal.array-loop-spot-preserved
 array-loop-spot-preserved t c = (c.fits_at.auto.verdicts ∙ c.loop-spot.invariant.0, c.fits_at.auto.found ∙ c.loop-spot.invariant.1, each_on _ _ c.loop-spot.invariant.2 c.in-Some.is c.fits_at.ensures.0 c.if-not-fits_at.false c.next_element-spot.ensures, c.fits_at.ensures.1, c.fits_at.ensures.2)
 
-pub field-returns-then-not-is_kind : goal.field-returns-then-not-is_kind
-field-returns-then-not-is_kind t c = (field_other _ _ _ _ _ _ c.requires.6 (c.is_kind.ensures _ c.kind_number.ensures) c.if-not-is_kind.true, c.requires.3, c.requires.4)
+pub field-returns-then-not-is_of : goal.field-returns-then-not-is_of
+field-returns-then-not-is_of t c = (field_other _ _ _ _ _ _ c.requires.6 c.is_of.ensures c.if-not-is_of.true, c.requires.3, c.requires.4)
 
 pub field-returns-in_default : goal.field-returns-in_default
-field-returns-in_default t c = (field_default _ _ _ _ _ _ c.requires.6 (c.is_kind.ensures _ c.kind_number.ensures) c.if-not-is_kind.false c.string_of.ensures.0 c.under_word.ensures c.in_default.is c.has_default.ensures, c.requires.3, c.requires.4)
+field-returns-in_default t c = (field_default _ _ _ _ _ _ c.requires.6 c.is_of.ensures c.if-not-is_of.false c.string_of.ensures.0 c.under_word.ensures c.in_default.is c.has_default.ensures, c.requires.3, c.requires.4)
 
 pub field-fits_at-requires : goal.field-fits_at-requires
 field-fits_at-requires t c = (omega (arith, c.decreases), (c.requires.0, c.requires.1, c.requires.2, c.requires.3, c.requires.4, omega (arith, c.requires.5)))
 
 pub field-returns : goal.field-returns
-field-returns t c = (field_value _ _ _ _ _ _ c.requires.6 (c.is_kind.ensures _ c.kind_number.ensures) c.if-not-is_kind.false c.string_of.ensures.0 c.under_word.ensures c.in-Some.is _ c.type_row-own.ensures c.fits_at.ensures.0, c.fits_at.ensures.1, c.fits_at.ensures.2)
+field-returns t c = (field_value _ _ _ _ _ _ c.requires.6 c.is_of.ensures c.if-not-is_of.false c.string_of.ensures.0 c.under_word.ensures c.in-Some.is _ c.type_row-own.ensures c.fits_at.ensures.0, c.fits_at.ensures.1, c.fits_at.ensures.2)
 
 pub fits_at-returns-then-left-eq0 : goal.fits_at-returns-then-left-eq0
 fits_at-returns-then-left-eq0 t c = (fits_none _ _ _ _ _ c.if-left-eq0.true, c.requires.3, c.requires.4)
@@ -108,38 +109,38 @@ map-loop-entry-preserved t c = (c.fits_at.auto.verdicts ∙ c.loop-entry.invaria
 pub nested-array-requires : goal.nested-array-requires
 nested-array-requires t c = (omega (arith, c.decreases), (c.requires.0, c.requires.1, c.requires.2, c.requires.3, c.requires.4, omega (arith, c.requires.5)))
 
-pub nested-returns-then-is_kind : goal.nested-returns-then-is_kind
-nested-returns-then-is_kind t c = (nested_array _ _ _ _ _ _ c.requires.6 (c.is_kind.ensures _ c.kind_number-kind.ensures) c.if-is_kind.true c.array.ensures.0, c.array.ensures.1, c.array.ensures.2)
+pub nested-returns-then-is_of : goal.nested-returns-then-is_of
+nested-returns-then-is_of t c = (nested_array _ _ _ _ _ _ c.requires.6 c.is_of.ensures c.if-is_of.true c.array.ensures.0, c.array.ensures.1, c.array.ensures.2)
 
 pub nested-map-requires : goal.nested-map-requires
 nested-map-requires t c = (omega (arith, c.decreases), (c.requires.0, c.requires.1, c.requires.2, c.requires.3, c.requires.4, omega (arith, c.requires.5)))
 
-pub nested-returns-then-is_kind-2 : goal.nested-returns-then-is_kind-2
-nested-returns-then-is_kind-2 t c = (nested_map _ _ _ _ _ _ c.requires.6 (c.is_kind.ensures _ c.kind_number-kind.ensures) c.if-is_kind.false (c.is_kind-2.ensures _ c.kind_number-kind.ensures) c.if-is_kind-2.true c.map.ensures.0, c.map.ensures.1, c.map.ensures.2)
+pub nested-returns-then-is_of-2 : goal.nested-returns-then-is_of-2
+nested-returns-then-is_of-2 t c = (nested_map _ _ _ _ _ _ c.requires.6 c.is_of.ensures c.if-is_of.false c.is_of-2.ensures c.if-is_of-2.true c.map.ensures.0, c.map.ensures.1, c.map.ensures.2)
 
 pub nested-record_of-requires : goal.nested-record_of-requires
 nested-record_of-requires t c = (omega (arith, c.decreases), (c.requires.0, c.requires.1, c.requires.2, c.requires.3, c.requires.4, omega (arith, c.requires.5), c.requires.6))
 
 pub nested-returns : goal.nested-returns
-nested-returns t c = (nested_record _ _ _ _ _ _ c.requires.6 (c.is_kind.ensures _ c.kind_number-kind.ensures) c.if-is_kind.false (c.is_kind-2.ensures _ c.kind_number-kind.ensures) c.if-is_kind-2.false c.requires.7 c.record_of.ensures.0, c.record_of.ensures.1, c.record_of.ensures.2)
+nested-returns t c = (nested_record _ _ _ _ _ _ c.requires.6 c.is_of.ensures c.if-is_of.false c.is_of-2.ensures c.if-is_of-2.false c.requires.7 c.record_of.ensures.0, c.record_of.ensures.1, c.record_of.ensures.2)
 
 pub one-plain-requires : goal.one-plain-requires
 one-plain-requires t c = (omega (arith, c.decreases), (c.requires.0, c.requires.1, c.requires.2, c.requires.3, c.definition-defined.ensures.1, omega (arith, c.requires.5)))
 
-pub one-returns-then-is_kind : goal.one-returns-then-is_kind
-one-returns-then-is_kind t c = (one_reference _ _ _ _ _ _ c.requires.6 (c.is_kind.ensures _ c.kind_number.ensures) c.if-is_kind.true _ c.definition-defined.ensures.0 c.plain.ensures.0, c.plain.ensures.1, c.plain.ensures.2)
+pub one-returns-then-is_of : goal.one-returns-then-is_of
+one-returns-then-is_of t c = (one_reference _ _ _ _ _ _ c.requires.6 c.is_of.ensures c.if-is_of.true _ c.definition-defined.ensures.0 c.plain.ensures.0, c.plain.ensures.1, c.plain.ensures.2)
 
 pub one-plain-requires-2 : goal.one-plain-requires-2
 one-plain-requires-2 t c = (omega (arith, c.decreases), (c.requires.0, c.requires.1, c.requires.2, c.requires.3, c.requires.4, omega (arith, c.requires.5)))
 
 pub one-returns : goal.one-returns
-one-returns t c = (one_self _ _ _ _ _ _ c.requires.6 (c.is_kind.ensures _ c.kind_number.ensures) c.if-is_kind.false c.plain-2.ensures.0, c.plain-2.ensures.1, c.plain-2.ensures.2)
+one-returns t c = (one_self _ _ _ _ _ _ c.requires.6 c.is_of.ensures c.if-is_of.false c.plain-2.ensures.0, c.plain-2.ensures.1, c.plain-2.ensures.2)
 
 pub plain-returns-then-n-row : goal.plain-returns-then-n-row
 plain-returns-then-n-row t c = (plain_none _ _ _ _ _ _ c.if-n-row.true, c.requires.3, c.requires.4)
 
 pub plain-returns-then-not-is_nested : goal.plain-returns-then-not-is_nested
-plain-returns-then-not-is_nested t c = (c.leaf.ensures _ (sym (c.is_nested.ensures _ c.kind_number.ensures) ∙ c.if-not-is_nested.true), c.requires.3, c.requires.4)
+plain-returns-then-not-is_nested t c = (c.leaf.ensures _ (sym (c.is_nested.ensures ∙ ap is_nested c.kind_at.ensures) ∙ c.if-not-is_nested.true), c.requires.3, c.requires.4)
 
 pub plain-returns-then-held-no : goal.plain-returns-then-held-no
 plain-returns-then-held-no t c = (true_no _ _ _ c.requires.3 _ _ _ c.asked-held.ensures c.if-held-no.true, c.requires.3, c.requires.4)
@@ -148,7 +149,7 @@ pub plain-returns-then-held-yes : goal.plain-returns-then-held-yes
 plain-returns-then-held-yes t c = (true_yes _ _ _ c.requires.3 _ _ _ c.asked-held.ensures c.if-held-yes.true, c.requires.3, c.requires.4)
 
 pub plain-nested-requires : goal.plain-nested-requires
-plain-nested-requires t c = (omega (arith, c.decreases), (c.requires.0, c.requires.1, c.requires.2, c.requires.3, c.requires.4, omega (arith, c.requires.5), c.if-n-row.false, sym (c.is_nested.ensures _ c.kind_number.ensures) ∙ c.if-not-is_nested.false))
+plain-nested-requires t c = (omega (arith, c.decreases), (c.requires.0, c.requires.1, c.requires.2, c.requires.3, c.requires.4, omega (arith, c.requires.5), c.if-n-row.false, sym (c.is_nested.ensures ∙ ap is_nested c.kind_at.ensures) ∙ c.if-not-is_nested.false))
 
 pub plain-note-requires : goal.plain-note-requires
 plain-note-requires t c = (c.requires.1, omega (arith, c.requires.5))

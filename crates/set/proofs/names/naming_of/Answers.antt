@@ -10,8 +10,8 @@ returns-then-not-well_formed c = naming_not _ _ _ (sym c.well_formed-2.ensures �
 pub name_at-name-requires : goal.name_at-name-requires
 name_at-name-requires c = sym c.well_formed-2.ensures ∙ c.if-not-well_formed.false
 
-pub returns-then-name-eq0 : goal.returns-then-name-eq0
-returns-then-name-eq0 c = naming_none _ _ _ (sym c.well_formed-2.ensures ∙ c.if-not-well_formed.false) _ c.name_at-name.ensures.0 c.if-name-eq0.true c.refused-then-name-eq0.ensures
+pub returns-then-is_empty : goal.returns-then-is_empty
+returns-then-is_empty c = naming_none _ _ _ (sym c.well_formed-2.ensures ∙ c.if-not-well_formed.false) _ c.name_at-name.ensures.0 (sym c.is_empty.ensures ∙ c.if-is_empty.true) c.refused-then-is_empty.ensures
 
 pub returns : goal.returns
-returns c = naming_done _ _ _ (sym c.well_formed-2.ensures ∙ c.if-not-well_formed.false) _ c.name_at-name.ensures.0 c.if-name-eq0.false
+returns c = naming_done _ _ _ (sym c.well_formed-2.ensures ∙ c.if-not-well_formed.false) _ c.name_at-name.ensures.0 (sym c.is_empty.ensures ∙ c.if-is_empty.false)

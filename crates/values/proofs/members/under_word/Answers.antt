@@ -2,6 +2,7 @@
 -- Assumes nothing.
 use Rattle.values.proofs.MemberLaws.{seek_start, seek_turn, seek_end}
 use Rattle.view.proofs.Laws.{pass_less}
+use Rattle.values.proofs.members.under_word.Goals.{then-string_is, else-string_is}
 use Rattle.values.proofs.members.under_word.Goals as goal
 
 pub loop-entry-init : goal.loop-entry-init
@@ -14,4 +15,4 @@ pub loop-entry-smaller : goal.loop-entry-smaller
 loop-entry-smaller c = pass_less _ c.loop-entry.invariant.true_entry c.in-Some.is c.next_member-entry.ensures
 
 pub loop-entry-preserved : goal.loop-entry-preserved
-loop-entry-preserved c = seek_turn _ _ _ c.loop-entry.invariant c.in-Some.is c.string_is-is.ensures c.found_if-found.ensures c.next_member-entry.ensures
+loop-entry-preserved c = seek_turn _ _ _ c.loop-entry.invariant c.in-Some.is c.string_is.ensures (elim c.if-string_is.branch [ then-string_is w ↦ rw (w.if-string_is.true) w.found-is | else-string_is w ↦ rw (w.if-string_is.false) w.found-is ]) c.next_member-entry.ensures
