@@ -91,6 +91,7 @@ pub fn has_symbol(
     ensures { result ≡ some (is_symbol (string_at text.now at)) (parts_under depth (type_at mem.now n start)) }
 {
     let mut i = next_part(mem, n, start, depth);
+    // Each step goes to the next part, which may stand many rows on: no range fits.
     while i < n {
         if is_symbol(mem, n, i, text, ends, at) {
             return true;

@@ -136,6 +136,7 @@ fn record_of(
     }
     let depth = depth_at(mem, row);
     let mut i = next_part(mem, n, row + 1, depth);
+    // Each step goes to the next part, which may stand many rows on: no range fits.
     while i < n {
         if !field(mem, n, text, ends, verdicts, found, left, i, at) {
             return false;
@@ -254,6 +255,7 @@ fn some_one(
 {
     let depth = depth_at(mem, row);
     let mut m = next_part(mem, n, row + 1, depth);
+    // Each step goes to the next part, which may stand many rows on: no range fits.
     while m < n {
         if one(mem, n, text, ends, verdicts, found, left, m, at) {
             return true;
