@@ -6,4 +6,4 @@ use borrow.Author.Rules.{rules}
 use Rattle.dhokyurai.proofs.dhokyurai_canonical.Goals as goal
 
 pub returns : goal.returns
-returns c = let e = c.of_written-n.ensures ∙ c.canonical.ensures.0 in (number e, c.canonical.ensures.1, first e, second e)
+returns c = let e = c.of_value-n.ensures ∙ c.canonical.ensures.0 in (number e, c.canonical.ensures.1, first e, second e)

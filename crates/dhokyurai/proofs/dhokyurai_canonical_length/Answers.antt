@@ -6,4 +6,4 @@ use borrow.Author.Rules.{rules}
 use Rattle.dhokyurai.proofs.dhokyurai_canonical_length.Goals as goal
 
 pub returns : goal.returns
-returns c = let e = c.of_written-n.ensures ∙ c.canonical_length.ensures in (number e, first e, second e)
+returns c = let e = c.of_value-n.ensures ∙ c.canonical_length.ensures in (number e, first e, second e)

@@ -12,5 +12,5 @@ use Rattle.dhokyurai.proofs.dhokyurai_find.Goals as goal
 
 pub returns : goal.returns
 returns c =
-    let e = c.of_place-n.ensures ∙ c.find.ensures ∙ ap (λ (z : ℤ). finding_of (place_of c.args.memory.now (bytes_of z))) (to_z-of_z c.ranges.fingerprint) in
+    let e = c.of_value-n.ensures ∙ c.find.ensures ∙ ap (λ (z : ℤ). finding_of (place_of c.args.memory.now (bytes_of z))) (to_z-of_z c.ranges.fingerprint) in
     (number e, first e, second e)

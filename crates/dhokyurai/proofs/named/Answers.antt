@@ -6,7 +6,7 @@ use borrow.Author.Rules.{rules}
 use Rattle.dhokyurai.proofs.named.Goals as goal
 
 pub returns-then-name-eq0 : goal.returns-then-name-eq0
-returns-then-name-eq0 c = c.of_naming.ensures ∙ c.naming_of.ensures
+returns-then-name-eq0 c = c.of_value.ensures ∙ c.naming_of.ensures
 
 pub returns : goal.returns
 returns c = c.accepted.ensures ∙ named_is _ _ _ _ c.requires c.if-name-eq0.false
