@@ -74,11 +74,8 @@ pub fn word_kind(text: &[u8], ends: &[u16], at: usize) -> Kind
     requires { Known text.now ends.now }
     ensures { result ≡ word_kind (string_at text.now at) }
 {
-    let e = literal(text, ends, at);
-    if 0 < e {
-        let start = at + 1;
-        let stop = e - 1;
-        return kind_of(&text[start..stop]);
+    if let Some(own) = literal(text, ends, at) {
+        return kind_of(own);
     }
     let mut word: [u8; 16] = [0; 16];
     let n = string_copy(text, ends, at, &mut word);
@@ -117,11 +114,8 @@ fn object_form(text: &[u8], ends: &[u16], at: usize, typed: usize) -> Form
     requires { Known text.now ends.now }
     ensures { result ≡ object_form (string_at text.now typed) at typed }
 {
-    let e = literal(text, ends, typed);
-    if 0 < e {
-        let start = typed + 1;
-        let stop = e - 1;
-        return form_of(&text[start..stop], at, typed);
+    if let Some(own) = literal(text, ends, typed) {
+        return form_of(own, at, typed);
     }
     let mut word: [u8; 16] = [0; 16];
     let n = string_copy(text, ends, typed, &mut word);

@@ -62,11 +62,8 @@ pub fn simple_check(text: &[u8], ends: &[u16], at: usize, word: &mut [u8; Scan::
     requires { (length text.now ≤ longest) × Known text.now ends.now }
     ensures { result ≡ simple_check text.now at }
 {
-    let e = literal(text, ends, at);
-    if 0 < e {
-        let start = at + 1;
-        let stop = e - 1;
-        return simple(text, &text[start..stop], at);
+    if let Some(own) = literal(text, ends, at) {
+        return simple(text, own, at);
     }
     let n = string_copy(text, ends, at, word);
     let all = &word[..];

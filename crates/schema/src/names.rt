@@ -69,11 +69,8 @@ pub(crate) fn put_both(
     ensures { (result ≡ counted counts (length (strings_of (with_default row (string_at text.now at) default.now))))
         × (draft.new ≡ pushed draft.old counts (with_default row (string_at text.now at) default.now)) }
 {
-    let e = literal(text, ends, at);
-    if 0 < e {
-        let start = at + 1;
-        let stop = e - 1;
-        return push_both(draft, counts, row, &text[start..stop], default);
+    if let Some(own) = literal(text, ends, at) {
+        return push_both(draft, counts, row, own, default);
     }
     let n = string_copy(text, ends, at, word);
     let all = &word[..];

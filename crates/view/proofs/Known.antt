@@ -43,12 +43,3 @@ module _ {t : List ℕ} {p e : ℕ} (l : Literal t p e) where
   pub literal_lent : take (e - 1 - (p + 1)) (drop (p + 1) t) ≡ string_at t p
   unfolding part
   literal_lent = sym l.bytes
-
-  pub literal_copy : (out : List ℕ) {after : List ℕ} → after ≡ store out 0 (take (e - 1 - (p + 1)) (drop (p + 1) t)) → after ≡ store out 0 (string_at t p)
-  literal_copy out h = h ∙ ap (λ (x : List ℕ). store out 0 x) literal_lent
-
-  pub literal_is : (w : List ℕ) {x : Bool} → x ≡ same (take (e - 1 - (p + 1)) (drop (p + 1) t)) w → x ≡ same (string_at t p) w
-  literal_is w h = h ∙ ap (λ (l : List ℕ). same l w) literal_lent
-
-  pub literal_same : (s : List ℕ) {x : Bool} → x ≡ same s (take (e - 1 - (p + 1)) (drop (p + 1) t)) → x ≡ same s (string_at t p)
-  literal_same s h = h ∙ ap (λ (l : List ℕ). same s l) literal_lent

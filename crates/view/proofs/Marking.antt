@@ -84,10 +84,5 @@ module _ (s : List ℕ) (i h : ℕ) where
   unfolding mark_from marked
   last_two l e d f = rw (front_two s i (omega arith), drop_of_length-le s {i = i + 2} (omega arith), ← e, ← d) f
 
--- a string as it stands in the text
-pub literal_mark : {t : List ℕ} {p e : ℕ} → Literal t p e → {r : ℕ} → r ≡ mark_of (take (e - 1 - (p + 1)) (drop (p + 1) t)) → r ≡ mark_of (string_at t p)
-unfolding part
-literal_mark l h = h ∙ ap (λ (x : List ℕ). mark_of x) (sym l.bytes)
-
 pub held_none : (h : ℕ) → Held (marking h 0 0)
 held_none h = record { few = omega arith; small = omega arith; first = λ (z : ◌≡◌ {A = ℕ} 0 1). absurd (omega arith) }

@@ -110,11 +110,8 @@ pub fn mark(text: &[u8], ends: &[u16], at: usize) -> u64
     requires { Known text.now ends.now }
     ensures { result ≡ mark_of (string_at text.now at) }
 {
-    let e = literal(text, ends, at);
-    if 0 < e {
-        let start = at + 1;
-        let stop = e - 1;
-        return mark_of(&text[start..stop]);
+    if let Some(own) = literal(text, ends, at) {
+        return mark_of(own);
     }
     spelled_mark(text, at)
 }

@@ -175,11 +175,8 @@ fn key_number(text: &[u8], ends: &[u16], at: usize) -> usize
     requires { Known text.now ends.now }
     ensures { result ≡ key_number (string_at text.now at) }
 {
-    let e = literal(text, ends, at);
-    if 0 < e {
-        let start = at + 1;
-        let stop = e - 1;
-        return number_of(&text[start..stop]);
+    if let Some(own) = literal(text, ends, at) {
+        return number_of(own);
     }
     let mut key: [u8; 16] = [0; 16];
     let n = read_copy(text, at, &mut key);
@@ -247,11 +244,8 @@ fn title_number(text: &[u8], ends: &[u16], at: usize) -> usize
     requires { Known text.now ends.now }
     ensures { result ≡ title_number (string_at text.now at) }
 {
-    let e = literal(text, ends, at);
-    if 0 < e {
-        let start = at + 1;
-        let stop = e - 1;
-        return title_of(&text[start..stop]);
+    if let Some(own) = literal(text, ends, at) {
+        return title_of(own);
     }
     read_title(text, at)
 }

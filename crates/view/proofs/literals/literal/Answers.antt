@@ -1,12 +1,27 @@
--- `view::literals::literal` meets its contract.
+-- `view::literals::literal` meets its contract: the table's end tells the string, and the string its end.
 -- Assumes nothing.
-use Prim.Native.Nat.{◌<◌}
+use mathlib.Core.Path.{◌≡◌, sym, ap, ◌∙◌, subst}
+use Prim.Native.Nat.{ℕ, ◌+◌, ◌-◌, ◌<◌}
 use native.Mathlib.Omega.{arith}
-use Rattle.view.proofs.Known.{known_literal}
+use lib.ListN.{length, take, drop}
+use Rattle.view.specs.Known.{Literal}
+use Rattle.view.proofs.Known.{known_literal, literal_length, literal_lent}
 use Rattle.view.proofs.literals.literal.Goals as goal
 
-pub returns-then-byte_at-eq34 : goal.returns-then-byte_at-eq34
-returns-then-byte_at-eq34 c = λ (h : 0 < c.known.result). known_literal c.requires _ c.known.ensures c.byte_at.ensures c.if-byte_at-eq34.true h
+pub overflow_add-result : goal.overflow_add-result
+overflow_add-result c =
+    let z : 0 < c.known-e.result = omega arith in
+    let l = known_literal c.requires c.args.at c.known-e.ensures c.byte_at.ensures c.if-byte_at-ne34.false z in
+    let a = l.opens in
+    let b = l.closes in
+    omega arith
 
 pub returns : goal.returns
-returns c = λ (h : 0 < 0). absurd (omega arith)
+returns c =
+    let z : 0 < c.known-e.result = omega arith in
+    let l = known_literal c.requires c.args.at c.known-e.ensures c.byte_at.ensures c.if-byte_at-ne34.false z in
+    let s = literal_lent l in
+    let n : length (take (c.known-e.result - 1 - (c.args.at + 1)) (drop (c.args.at + 1) c.args.text.now)) ≡ c.known-e.result - 1 - (c.args.at + 1) = ap length s ∙ sym (literal_length l) in
+    let a = l.opens in
+    let e : c.known-e.result ≡ c.args.at + 2 + length (take (c.known-e.result - 1 - (c.args.at + 1)) (drop (c.args.at + 1) c.args.text.now)) = omega arith in
+    record { string = s; ended = subst (λ (k : ℕ). Literal c.args.text.now c.args.at k) e l }

@@ -1,20 +1,11 @@
 -- `view::literals::string_is` meets its contract.
 -- Assumes nothing.
-use native.Mathlib.Omega.{arith}
-use Rattle.view.proofs.Known.{literal_is}
+use mathlib.Core.Path.{ap}
+use mathlib.Core.Path.{◌∙◌}
+use mathlib.Core.List.{List}
+use Prim.Native.Nat.{ℕ}
+use Rattle.ground.specs.Bytes.{same}
 use Rattle.view.proofs.literals.string_is.Goals as goal
 
-pub overflow_add-start : goal.overflow_add-start
-overflow_add-start c = let l = (c.literal-e.ensures c.if-e-gt0.true) in let a = l.opens in let b = l.closes in omega arith
-
-pub slice_bounds-same-count : goal.slice_bounds-same-count
-slice_bounds-same-count c = let l = (c.literal-e.ensures c.if-e-gt0.true) in let a = l.opens in let b = l.closes in omega arith
-
-pub slice_bounds-same-start : goal.slice_bounds-same-start
-slice_bounds-same-start c = let l = (c.literal-e.ensures c.if-e-gt0.true) in let a = l.opens in let b = l.closes in omega arith
-
-pub slice_bounds-same-end : goal.slice_bounds-same-end
-slice_bounds-same-end c = let l = (c.literal-e.ensures c.if-e-gt0.true) in let a = l.opens in let b = l.closes in omega arith
-
-pub returns-then-e-gt0 : goal.returns-then-e-gt0
-returns-then-e-gt0 c = literal_is (c.literal-e.ensures c.if-e-gt0.true) _ c.same.ensures
+pub returns-in-Some : goal.returns-in-Some
+returns-in-Some c = c.same.ensures ∙ ap (λ (l : List ℕ). same l c.args.word.now) c.in-Some.ensures.string

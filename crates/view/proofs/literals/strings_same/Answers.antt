@@ -1,20 +1,12 @@
 -- `view::literals::strings_same` meets its contract.
 -- Assumes nothing.
-use native.Mathlib.Omega.{arith}
-use Rattle.view.proofs.Known.{literal_same}
+use mathlib.Core.Path.{ap}
+use mathlib.Core.Path.{◌∙◌}
+use mathlib.Core.List.{List}
+use Prim.Native.Nat.{ℕ}
+use Rattle.view.specs.Strings.{string_at}
+use Rattle.ground.specs.Bytes.{same}
 use Rattle.view.proofs.literals.strings_same.Goals as goal
 
-pub overflow_add-start : goal.overflow_add-start
-overflow_add-start c = let l = (c.literal-e.ensures c.if-e-gt0.true) in let a = l.opens in let b = l.closes in omega arith
-
-pub slice_bounds-string_is-count : goal.slice_bounds-string_is-count
-slice_bounds-string_is-count c = let l = (c.literal-e.ensures c.if-e-gt0.true) in let a = l.opens in let b = l.closes in omega arith
-
-pub slice_bounds-string_is-start : goal.slice_bounds-string_is-start
-slice_bounds-string_is-start c = let l = (c.literal-e.ensures c.if-e-gt0.true) in let a = l.opens in let b = l.closes in omega arith
-
-pub slice_bounds-string_is-end : goal.slice_bounds-string_is-end
-slice_bounds-string_is-end c = let l = (c.literal-e.ensures c.if-e-gt0.true) in let a = l.opens in let b = l.closes in omega arith
-
-pub returns-then-e-gt0 : goal.returns-then-e-gt0
-returns-then-e-gt0 c = literal_same (c.literal-e.ensures c.if-e-gt0.true) _ c.string_is.ensures
+pub returns-in-Some : goal.returns-in-Some
+returns-in-Some c = c.string_is.ensures ∙ ap (λ (l : List ℕ). same (string_at c.args.text.now c.args.one) l) c.in-Some.ensures.string

@@ -1,20 +1,11 @@
 -- `view::marks::mark` meets its contract.
 -- Assumes nothing.
-use native.Mathlib.Omega.{arith}
-use Rattle.view.proofs.Marking.{literal_mark}
+use mathlib.Core.Path.{ap}
+use mathlib.Core.Path.{◌∙◌}
+use mathlib.Core.List.{List}
+use Prim.Native.Nat.{ℕ}
+use Rattle.view.specs.Marks.{mark_of}
 use Rattle.view.proofs.marks.mark.Goals as goal
 
-pub overflow_add-start : goal.overflow_add-start
-overflow_add-start c = let l = c.literal-e.ensures c.if-e-gt0.true in let a = l.opens in let b = l.closes in omega arith
-
-pub slice_bounds-mark_of-count : goal.slice_bounds-mark_of-count
-slice_bounds-mark_of-count c = let l = c.literal-e.ensures c.if-e-gt0.true in let a = l.opens in let b = l.closes in omega arith
-
-pub slice_bounds-mark_of-start : goal.slice_bounds-mark_of-start
-slice_bounds-mark_of-start c = let l = c.literal-e.ensures c.if-e-gt0.true in let a = l.opens in let b = l.closes in omega arith
-
-pub slice_bounds-mark_of-end : goal.slice_bounds-mark_of-end
-slice_bounds-mark_of-end c = let l = c.literal-e.ensures c.if-e-gt0.true in let a = l.opens in let b = l.closes in omega arith
-
-pub returns-then-e-gt0 : goal.returns-then-e-gt0
-returns-then-e-gt0 c = literal_mark (c.literal-e.ensures c.if-e-gt0.true) c.mark_of.ensures
+pub returns-in-Some : goal.returns-in-Some
+returns-in-Some c = c.mark_of.ensures ∙ ap (λ (l : List ℕ). mark_of l) c.in-Some.ensures.string
