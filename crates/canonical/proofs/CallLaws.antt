@@ -181,6 +181,12 @@ module _ (m : List ℕ) (place : ℕ) where
   unfolding print_of
   print_refused e = rw e
 
+  pub print_broken : well_formed m ≡ false → numbers_of_print (Err (refusal NotWellFormed place 0)) ≡ print_of (text_at m place)
+  print_broken w = print_refused (text_broken w)
+
+  pub print_absent : well_formed m ≡ true → (n : ℕ) → n ≡ count_in m → n ≤ place → numbers_of_print (Err (refusal NoSuchPlace place 0)) ≡ print_of (text_at m place)
+  print_absent w n e h = print_refused (text_absent w n e h)
+
   -- what a length tells
   pub length_told : (n : ℕ) → accepted n 0 0 ≡ length_of (text_at m place) → (well_formed m ≡ true) × (place < length (decode m)) × (n ≡ length (canonical_at m place))
   unfolding text_at length_of

@@ -61,7 +61,7 @@ row_passes : (earlier : List Row) (r : Row) → fault_of earlier r ≡ Ok tt →
 unfolding fault_of
 row_passes earlier r e = go (is_definition r.kind) (is_kind Reference r.kind) (is_defined earlier r.text) refl refl refl e
   where
-    no : {A : Type 0} {f : Fault} → Err f ≡ Ok tt → A
+    no : {A : Type 0} {f : Fault} → ◌≡◌ {A = Resolution} (Err f) (Ok tt) → A
     no z = let y : ◌≡◌ {A = ℕ} 0 1 = cc in absurd (omega arith)
 
     go : (a b d : Bool) → is_definition r.kind ≡ a → is_kind Reference r.kind ≡ b → is_defined earlier r.text ≡ d
@@ -96,7 +96,7 @@ row_broken earlier r f e = go (is_definition r.kind) (is_kind Reference r.kind) 
     is : {w : Why} → faulty w r ≡ Err f → Broken earlier r w → Broken earlier r f.why × (f.at ≡ r.position)
     is {w} z b = let y : record { why = w; at = r.position } ≡ f = cc in rw (← y) (b, refl)
 
-    no : {A : Type 0} → Ok tt ≡ Err f → A
+    no : {A : Type 0} → ◌≡◌ {A = Resolution} (Ok tt) (Err f) → A
     no z = let y : ◌≡◌ {A = ℕ} 0 1 = cc in absurd (omega arith)
 
     go : (a b d : Bool) → is_definition r.kind ≡ a → is_kind Reference r.kind ≡ b → is_defined earlier r.text ≡ d
