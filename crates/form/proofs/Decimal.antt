@@ -16,22 +16,22 @@ use Rattle.form.specs.declared.note.Note.{Note}
 use Rattle.form.specs.declared.note.Plain.{Plain}
 use Rattle.form.specs.declared.note.Plain.TheVariants.{Bytes, Fixed}
 use Rattle.form.specs.Spots.{on_spot, as_text}
-use Rattle.form.specs.Notes.{on_size, noted, exceeds, compared, with_scale, with_precision, is_decimal, note_of}
+use Rattle.form.specs.Notes.{noted, exceeds, compared, with_scale, with_precision, is_decimal, note_of}
 
 -- a size literal's value, where a place has one
 module _ (t : List ℕ) (f : ℕ → Note) (other missing : Note) where
   abbrev by : Option ℕ → Note
-  by s = on_spot s (λ q. on_size (size_of t q) f other) missing
+  by s = on_spot s (λ q. on_spot (size_of t q) f other) missing
 
   by_none : {s : Option ℕ} → s ≡ None → missing ≡ by s
   by_none e = ap by (sym e)
 
   module _ {s : Option ℕ} {p : ℕ} (e : s ≡ Some p) {z : Option ℕ} (g : z ≡ size_of t p) where
     by_value : {v : ℕ} → z ≡ Some v → f v ≡ by s
-    by_value h = ap (λ (z : Option ℕ). on_size z f other) (sym h ∙ g) ∙ ap by (sym e)
+    by_value h = ap (λ (z : Option ℕ). on_spot z f other) (sym h ∙ g) ∙ ap by (sym e)
 
     by_other : z ≡ None → other ≡ by s
-    by_other h = ap (λ (z : Option ℕ). on_size z f other) (sym h ∙ g) ∙ ap by (sym e)
+    by_other h = ap (λ (z : Option ℕ). on_spot z f other) (sym h ∙ g) ∙ ap by (sym e)
 
 -- what the plain type allows
 pub exceeds_bytes : {plain : Plain} (precision : ℕ) → plain ≡ Bytes → false ≡ exceeds plain precision

@@ -1,7 +1,7 @@
 -- A decimal's note: 1 holds, 2 precision missing, 3 precision not a size literal, 4 scale not one, 5 precision 0, 6 precision below scale, 7 precision
 -- above the limit of a fixed's size.
 -- Assumes nothing.
-use Rattle.std.specs.Prelude.{ℕ, Bool, false, cond, List, eqb, ltb, Option, Some, None}
+use Rattle.std.specs.Prelude.{ℕ, Bool, false, cond, List, eqb, ltb}
 use Rattle.ground.specs.Ascii.{ascii}
 use Rattle.ground.specs.Bytes.{same}
 use Rattle.decimals.specs.Limits.{limit_of}
@@ -12,11 +12,6 @@ use Rattle.form.specs.declared.note.Note.{Note}
 use Rattle.form.specs.declared.note.Plain.{Plain}
 use Rattle.form.specs.declared.note.Plain.TheVariants.{Bytes, Fixed}
 use Rattle.form.specs.Spots.{on_spot, as_text}
-
--- what is done with a size literal's value, and what where it is none
-abbrev pub on_size : {A : Type 0} → Option ℕ → (ℕ → A) → A → A
-on_size (Some v) f none = f v
-on_size None f none = none
 
 -- precision and scale are kept where the note is 1
 abbrev pub noted : ℕ → Note
@@ -40,10 +35,10 @@ compared plain precision scale =
 
 -- a missing scale is 0
 unfoldable pub with_scale : List ℕ → Members → Plain → ℕ → Note
-with_scale t m plain precision = on_spot m.scale (λ q. on_size (size_of t q) (compared plain precision) (noted 4)) (compared plain precision 0)
+with_scale t m plain precision = on_spot m.scale (λ q. on_spot (size_of t q) (compared plain precision) (noted 4)) (compared plain precision 0)
 
 unfoldable pub with_precision : List ℕ → Members → Plain → Note
-with_precision t m plain = on_spot m.precision (λ q. on_size (size_of t q) (with_scale t m plain) (noted 3)) (noted 2)
+with_precision t m plain = on_spot m.precision (λ q. on_spot (size_of t q) (with_scale t m plain) (noted 3)) (noted 2)
 
 unfoldable pub is_decimal : List ℕ → Members → Bool
 is_decimal t m = on_spot (as_text t m.logical_type) (λ q. same (string_at t q) (ascii "decimal")) false

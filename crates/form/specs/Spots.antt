@@ -6,7 +6,7 @@ use Rattle.view.specs.declared.shape.Shape.TheVariants.{Text, Number, Object, Ar
 use Rattle.view.specs.Values.{shape_at}
 use Rattle.view.specs.Elements.{elements}
 
--- what is done with a place, and what where there is none
+-- what is done with a place, or a size, and what where there is none
 abbrev pub on_spot : {A : Type 0} → Option ℕ → (ℕ → A) → A → A
 on_spot (Some p) f none = f p
 on_spot None f none = none

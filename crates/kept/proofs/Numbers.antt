@@ -23,7 +23,7 @@ use Rattle.form.specs.declared.note.Note.{Note}
 use Rattle.form.specs.declared.note.Plain.{Plain}
 use Rattle.form.specs.Spots.{on_spot}
 use Rattle.form.specs.declared.note.Plain.TheVariants as over
-use Rattle.form.specs.Notes.{on_size, noted, holds, exceeds, compared, with_scale, with_precision, is_decimal, note_of}
+use Rattle.form.specs.Notes.{noted, holds, exceeds, compared, with_scale, with_precision, is_decimal, note_of}
 use Rattle.schema.specs.Schema.{row_with}
 use Rattle.resolve.specs.Kinds.{is_kind}
 use Rattle.resolve.specs.Rules.{good_size, good_note, good_precision, good_decimal, good_numbers}
@@ -113,11 +113,11 @@ module _ (t : List ℕ) (m : Members) (o : Plain) where
   unfolding with_scale
   scale_good p h = go m.scale
     where
-      sized : (z : Option ℕ) → Noted o (on_size z (compared o p) (noted 4))
+      sized : (z : Option ℕ) → Noted o (on_spot z (compared o p) (noted 4))
       sized (Some v) = compared_good o p v h
       sized None = low o 4 (omega arith) (λ (z : 4 ≡ 1). omega arith)
 
-      go : (s : Option ℕ) → Noted o (on_spot s (λ q. on_size (size_of t q) (compared o p) (noted 4)) (compared o p 0))
+      go : (s : Option ℕ) → Noted o (on_spot s (λ q. on_spot (size_of t q) (compared o p) (noted 4)) (compared o p 0))
       go (Some q) = sized (size_of t q)
       go None = compared_good o p 0 h
 
@@ -125,11 +125,11 @@ module _ (t : List ℕ) (m : Members) (o : Plain) where
   unfolding with_precision
   precision_good = go m.precision
     where
-      sized : (q : ℕ) (z : Option ℕ) → size_of t q ≡ z → Noted o (on_size z (with_scale t m o) (noted 3))
+      sized : (q : ℕ) (z : Option ℕ) → size_of t q ≡ z → Noted o (on_spot z (with_scale t m o) (noted 3))
       sized q (Some v) e = scale_good v (size_small t q v e)
       sized q None e = low o 3 (omega arith) (λ (z : 3 ≡ 1). omega arith)
 
-      go : (s : Option ℕ) → Noted o (on_spot s (λ q. on_size (size_of t q) (with_scale t m o) (noted 3)) (noted 2))
+      go : (s : Option ℕ) → Noted o (on_spot s (λ q. on_spot (size_of t q) (with_scale t m o) (noted 3)) (noted 2))
       go (Some q) = sized q (size_of t q) refl
       go None = low o 2 (omega arith) (λ (z : 2 ≡ 1). omega arith)
 

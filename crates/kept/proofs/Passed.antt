@@ -11,7 +11,6 @@ use Rattle.row.specs.Rows.{Row}
 use Rattle.row.specs.declared.kind.Kind.{Kind}
 use Rattle.form.specs.Checks.{must, ◌then◌, Check}
 use Rattle.form.specs.Spots.{on_spot}
-use Rattle.form.specs.Notes.{on_size}
 use Rattle.schema.specs.Out.{Out, refused, read, rows_then, and_then, after, each}
 use Rattle.kept.proofs.Lists.{All, nil, all_append}
 use Rattle.kept.proofs.Forest.{Rows, rows_none, rows_append}
@@ -70,15 +69,6 @@ pub record There (s : Option ℕ) (f : ℕ → Out) (rs : List Row) : Type 0 whe
 pub spot_read : (s : Option ℕ) (f : ℕ → Out) (x : Fault) {rs : List Row} → on_spot s f (refused x) ≡ read rs → There s f rs
 spot_read (Some q) f x e = record { place = q; at = refl; reads = e }
 spot_read None f x e = unread e
-
-pub record Sized (s : Option ℕ) (f : ℕ → Out) (rs : List Row) : Type 0 where
-  pub size : ℕ
-  pub value : s ≡ Some size
-  pub reads : f size ≡ read rs
-
-pub size_read : (s : Option ℕ) (f : ℕ → Out) (x : Fault) {rs : List Row} → on_size s f (refused x) ≡ read rs → Sized s f rs
-size_read (Some v) f x e = record { size = v; value = refl; reads = e }
-size_read None f x e = unread e
 
 -- what was read at each place
 pub each_rows : {t : List ℕ} {e : ℕ} {test : Kind → Bool} (reads : ℕ → Out) → ((p : ℕ) (rs : List Row) → reads p ≡ read rs → Rows t e test rs)

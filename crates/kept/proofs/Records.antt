@@ -37,7 +37,7 @@ use Rattle.resolve.specs.Kinds.{is_kind, is_part_of, parts_fit}
 use Rattle.resolve.specs.Rules.{kinds_at, no_two, takes_name, same_symbol, clash}
 use Rattle.kept.proofs.Lists.{All, nil, cons, all_append, all_map, all_any, kinds_append, Misses, Unmet, unmet_misses, two_nil, two_cons, two_front, two_never}
 use Rattle.kept.proofs.Forest.{Rows, good_row_lem, rows_none, rows_append, rows_weaken, rows_tree, rows_tops}
-use Rattle.kept.proofs.Passed.{must_true, then_fine, after_read, rows_read_lem, both_read, spot_read, size_read, read_same}
+use Rattle.kept.proofs.Passed.{must_true, then_fine, after_read, rows_read_lem, both_read, spot_read, read_same}
 use Rattle.kept.proofs.Numbers.{size_small, note_good, plain_numbers, fixed_numbers}
 use Rattle.kept.proofs.Texts.{Own, simple_own}
 use Rattle.kept.proofs.Defaults.{Default, default_read, field_strings, field_numbers, field_placed}
@@ -204,7 +204,7 @@ module _ (t : List ℕ) (short : length t ≤ longest) where
     unfolding fixed_rows
     fixed_schema e =
         let s = spot_read m.size _ _ e in
-        let v = size_read (size_of t s.place) _ _ s.reads in
-        let small = size_small t s.place v.size v.value in
-        definition_schema t short a good f Fixed fixed_defines d p m v.size (note_of t m (over.Fixed v.size)) _
-        (λ q x h. fixed_numbers d q x v.size (note_of t m (over.Fixed v.size)) h small (note_good t m (over.Fixed v.size))) fixed_body heads v.reads
+        let v = spot_read (size_of t s.place) _ _ s.reads in
+        let small = size_small t s.place v.place v.at in
+        definition_schema t short a good f Fixed fixed_defines d p m v.place (note_of t m (over.Fixed v.place)) _
+        (λ q x h. fixed_numbers d q x v.place (note_of t m (over.Fixed v.place)) h small (note_good t m (over.Fixed v.place))) fixed_body heads v.reads

@@ -23,7 +23,7 @@ use Rattle.form.specs.Checks.{fault, ◌then◌, Check}
 use Rattle.form.specs.Spots.{on_spot, as_text, as_array, aliases_in}
 use Rattle.form.specs.Names.{defined_at, definition_check}
 use Rattle.form.specs.declared.note.Plain.TheVariants as over
-use Rattle.form.specs.Notes.{on_size, noted, note_of}
+use Rattle.form.specs.Notes.{noted, note_of}
 use Rattle.rules.specs.Symbols.{symbols_check, default_check}
 use Rattle.rules.specs.Unions.{called, union_check, name_of}
 use Rattle.schema.specs.declared.walked.Defined.{Defined}
@@ -134,8 +134,8 @@ fixed_is : (t namespace : List ℕ) (standing : Standing) (d p : ℕ) (o : Membe
 unfolding fixed_rows
 fixed_is t namespace standing d p o {v} g {s} h {size} i {note} j =
     let a = around namespace standing in
-    ap (λ (y : Option ℕ). on_spot y (λ v. on_size (size_of t v) (λ size. definition t a Fixed d p o size (note_of t o (over.Fixed size)) (λ own. read [])) (no NotASize v)) (no SizeMissing p)) g
-    ∙ ap (λ (z : Option ℕ). on_size z (λ size. definition t a Fixed d p o size (note_of t o (over.Fixed size)) (λ own. read [])) (no NotASize v)) (sym h ∙ i)
+    ap (λ (y : Option ℕ). on_spot y (λ v. on_spot (size_of t v) (λ size. definition t a Fixed d p o size (note_of t o (over.Fixed size)) (λ own. read [])) (no NotASize v)) (no SizeMissing p)) g
+    ∙ ap (λ (z : Option ℕ). on_spot z (λ size. definition t a Fixed d p o size (note_of t o (over.Fixed size)) (λ own. read [])) (no NotASize v)) (sym h ∙ i)
     ∙ definition_then t a Fixed d p o size (note_of t o (over.Fixed size)) (λ own. read [])
     ∙ ap (λ (x : Note). and_then (head_rows t a Fixed d p o size x) (read [])) (sym j)
 

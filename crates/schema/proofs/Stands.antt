@@ -24,7 +24,7 @@ use Rattle.form.specs.declared.note.Plain.TheVariants as over
 use Rattle.form.specs.Spots.{on_spot, as_text}
 use Rattle.form.specs.Names.{full_at, reference_check, defined_at, definition_check}
 use Rattle.form.specs.Forms.{word_kind, form_of}
-use Rattle.form.specs.Notes.{on_size, note_of}
+use Rattle.form.specs.Notes.{note_of}
 use Rattle.rules.specs.declared.standing.Standing.{Standing}
 use Rattle.rules.specs.declared.standing.Standing.TheVariants.{Alone, MemberOf}
 use Rattle.rules.specs.Unions.{Head, called, unnamed, definition_head, head_of, union_check}
@@ -64,13 +64,13 @@ module _ (t namespace : List ℕ) (u q : ℕ) where
   unfolding fixed_rows
   fixed_sure d p o e = go o.size
     where
-      sized : (v : ℕ) (z : Option ℕ) → on_size z (λ size. definition t (within namespace) Fixed d p o size (note_of t o (over.Fixed size)) (λ own. read [])) (no NotASize v)
-          ≡ on_size z (λ size. definition t member Fixed d p o size (note_of t o (over.Fixed size)) (λ own. read [])) (no NotASize v)
+      sized : (v : ℕ) (z : Option ℕ) → on_spot z (λ size. definition t (within namespace) Fixed d p o size (note_of t o (over.Fixed size)) (λ own. read [])) (no NotASize v)
+          ≡ on_spot z (λ size. definition t member Fixed d p o size (note_of t o (over.Fixed size)) (λ own. read [])) (no NotASize v)
       sized v (Some size) = definition_sure Fixed d p o size (note_of t o (over.Fixed size)) (λ own. read []) e
       sized v None = refl
 
-      go : (s : Option ℕ) → on_spot s (λ v. on_size (size_of t v) (λ size. definition t (within namespace) Fixed d p o size (note_of t o (over.Fixed size)) (λ own. read [])) (no NotASize v)) (no SizeMissing p)
-          ≡ on_spot s (λ v. on_size (size_of t v) (λ size. definition t member Fixed d p o size (note_of t o (over.Fixed size)) (λ own. read [])) (no NotASize v)) (no SizeMissing p)
+      go : (s : Option ℕ) → on_spot s (λ v. on_spot (size_of t v) (λ size. definition t (within namespace) Fixed d p o size (note_of t o (over.Fixed size)) (λ own. read [])) (no NotASize v)) (no SizeMissing p)
+          ≡ on_spot s (λ v. on_spot (size_of t v) (λ size. definition t member Fixed d p o size (note_of t o (over.Fixed size)) (λ own. read [])) (no NotASize v)) (no SizeMissing p)
       go (Some v) = sized v (size_of t v)
       go None = refl
 

@@ -37,11 +37,11 @@ Did' m c m' r (read rows) = (r ≡ Ok (counted_all c rows)) × (m' ≡ pushed_al
 pub record Did (m : List ℕ) (c : Counts) (m' : List ℕ) (r : Walked) (o : Out) : Type 0 where
   pub did : Did' m c m' r o
 
--- the same for a definition, whose full name is then in the buffer
 -- a definition's name, its row and its aliases were read: the length of its full name, and the counts with its rows
 abbrev pub defined_as : ℕ → Counts → Result Defined Fault
 defined_as n c = Ok (record { name = n; next = c })
 
+-- the same for a definition, whose full name is then in the buffer
 abbrev pub Titled' : List ℕ → Counts → List ℕ → Result Defined Fault → List ℕ → List ℕ → Out → Type 0
 Titled' m c m' r buffer full (refused f) = r ≡ Err f
 Titled' m c m' r buffer full (read rows) =

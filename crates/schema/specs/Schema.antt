@@ -27,7 +27,7 @@ use Rattle.form.specs.Checks.{fault, must, ◌then◌, Check}
 use Rattle.form.specs.Spots.{on_spot, as_text, as_array, aliases_in, fields_in}
 use Rattle.form.specs.Names.{simple_check, full_at, reference_check, alias_check, defined_at, definition_check}
 use Rattle.form.specs.Forms.{word_kind, form_of, most_nested}
-use Rattle.form.specs.Notes.{on_size, noted, note_of}
+use Rattle.form.specs.Notes.{noted, note_of}
 use Rattle.rules.specs.Unions.{called, unnamed, union_check}
 use Rattle.rules.specs.Fields.{field_names_check}
 use Rattle.rules.specs.Symbols.{symbols_check, default_check}
@@ -175,7 +175,7 @@ enum_rows t a d p m =
 unfoldable pub fixed_rows : List ℕ → Around → ℕ → ℕ → Members → Out
 fixed_rows t a d p m =
     on_spot m.size
-    (λ v. on_size (size_of t v) (λ size. definition t a Fixed d p m size (note_of t m (over.Fixed size)) (λ own. read [])) (no NotASize v))
+    (λ v. on_spot (size_of t v) (λ size. definition t a Fixed d p m size (note_of t m (over.Fixed size)) (λ own. read [])) (no NotASize v))
     (no SizeMissing p)
 
 -- ---- arrays, maps, unions

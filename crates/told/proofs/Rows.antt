@@ -31,7 +31,7 @@ use Rattle.form.specs.Spots.{on_spot, is_text, as_text, as_array, aliases_in, fi
 use Rattle.form.specs.Names.{simple_check, full_at, reference_check, alias_check, defined_at, definition_check}
 use Rattle.form.specs.Forms.{word_kind, object_form, form_by, form_within, form_of, most_nested}
 use Rattle.form.specs.declared.note.Plain.TheVariants as over
-use Rattle.form.specs.Notes.{on_size, noted, note_of}
+use Rattle.form.specs.Notes.{noted, note_of}
 use Rattle.rules.specs.Unions.{called, unnamed, union_check}
 use Rattle.rules.specs.Fields.{field_names_check}
 use Rattle.rules.specs.Symbols.{symbols_check, default_check}
@@ -187,7 +187,7 @@ module _ (t : List ℕ) where
   unfolding fixed_rows
   fixed_fair a d p m = spot_fair t m.size _ (no SizeMissing p) (λ v _. go v (size_of t v)) (other t SizeMissing p refl)
     where
-      go : (v : ℕ) (s : Option ℕ) → FairOut t (on_size s (λ size. definition t a Fixed d p m size (note_of t m (over.Fixed size)) (λ own. read [])) (no NotASize v))
+      go : (v : ℕ) (s : Option ℕ) → FairOut t (on_spot s (λ size. definition t a Fixed d p m size (note_of t m (over.Fixed size)) (λ own. read [])) (no NotASize v))
       go v (Some size) = defined_fair a Fixed d p m size (note_of t m (over.Fixed size)) (λ own. read []) (λ own. tt)
       go v None = other t NotASize v refl
 
