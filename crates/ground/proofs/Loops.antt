@@ -2,19 +2,19 @@
 -- Assumes nothing.
 use mathlib.Core.Path.{◌≡◌, refl, sym, ap, ◌∙◌}
 use mathlib.Core.Bool.{Bool, true, false, ◌&&◌, and-true, and_assoc}
-use mathlib.Core.List.{List, ◌++◌}
+use mathlib.Core.List.{List}
 use Prim.Native.Nat.{ℕ, suc, ◌+◌, ◌-◌, ◌<◌, ◌≤◌, max, min}
 use native.Mathlib.Numerals.{add-one}
 use native.Mathlib.Decide.{dec_le}
 use native.Mathlib.Omega.{arith}
-use lib.ListN.{length, take, drop, get_or, length-take, drop_of_length-le, take-append-drop}
-use lib.Seq.{drop-cons, drop-drop, take_all}
+use lib.ListN.{length, drop, get_or, set, drop_of_length-le}
+use lib.Seq.{drop-cons}
 use lib.Dec.{eqb}
 use borrow.Author.Tests.{eq-eqb, ne_eqb}
 use Rattle.std.specs.Prelude.{MatchBool, ◌≢◌}
 use Rattle.std.proofs.lemmas.Grind.{same_number_lists}
 use Rattle.ground.specs.Bytes.{same, all_zero, store}
-use Rattle.ground.proofs.Laws.{same_refl, same_true, length_store, store_past, store_append, store_fits}
+use Rattle.ground.proofs.Laws.{same_refl, same_true, store_cons, store_none, store_past}
 
 -- strings of one length are the same where all bytes are, and are not where one differs
 pub same_told : (a b : List ℕ) (r : Bool) → length a ≡ length b → MatchBool r ((k : ℕ) → k < length a → get_or a k 0 ≡ get_or b k 0) ((k : ℕ) × (k < length a) × (get_or a k 0 ≢ get_or b k 0)) → r ≡ same a b
@@ -43,19 +43,16 @@ module _ (s : List ℕ) (i most : ℕ) (t : Bool) (inv : t ≡ (eqb most 0 && al
   unfolding all_zero
   zero_end l = sym (inv ∙ rw (drop_of_length-le s l) (and-true (eqb most 0)))
 
--- of the bytes that are stored those that have room are stored, and no more
-module _ (s bs : List ℕ) (at n : ℕ) (e : n ≡ min (length bs) (length s - at)) where
-  store_room : store s at (take n bs) ≡ store s at bs
-  store_room = go (dec_le (length bs) (length s - at))
-    where
-      go : Dec (length bs ≤ length s - at) → store s at (take n bs) ≡ store s at bs
-      go (yes p) = ap (store s at) (take_all n bs (omega arith))
-      go (no p) =
-          let l : length (store s at (take n bs)) ≤ at + length (take n bs) = simp (length_store, length-take) (omega arith) in
-          sym (store_past (store s at (take n bs)) (at + length (take n bs)) (drop n bs) l) ∙ store_append s at (take n bs) (drop n bs) ∙ ap (store s at) (take-append-drop n bs)
+module _ (to x bs : List ℕ) (at i : ℕ) (inv : store to (at + i) (drop i bs) ≡ x) where
+  pub copy_turn : i < length bs → store (set to (at + i) (get_or bs i 0)) (at + (i + 1)) (drop (i + 1) bs) ≡ x
+  copy_turn l =
+      let e : at + (i + 1) ≡ at + i + 1 = omega arith in
+      rw e (sym (store_cons to (at + i) (get_or bs i 0) (drop (i + 1) bs)) ∙ ap (store to (at + i)) (sym (rw add-one (drop-cons bs i 0 l))) ∙ inv)
 
-  pub store_part : at < length s → take at s ++ (take n bs ++ drop n (drop at s)) ≡ store s at bs
-  store_part l =
-      let k : length (take n bs) ≡ n = simp length-take (omega arith) in
-      let f : at + length (take n bs) ≤ length s = omega arith in
-      sym (store_fits s at (take n bs) f ∙ rw (k, drop-drop) refl) ∙ store_room
+  -- either all is stored, or there is no room for more
+  pub copy_end : min (length bs) (length to - at) ≤ i → to ≡ x
+  copy_end l = go (dec_le (length bs) i)
+    where
+      go : Dec (length bs ≤ i) → to ≡ x
+      go (yes p) = sym (ap (store to (at + i)) (drop_of_length-le bs p) ∙ store_none to (at + i)) ∙ inv
+      go (no p) = sym (store_past to (at + i) (drop i bs) (omega arith)) ∙ inv

@@ -33,14 +33,14 @@ pub fn all_zero(s: &[u8]) -> bool
     most == 0
 }
 
-// Stores the bytes of `from` in `to`, from `at` on, as far as there is room.
-#[tactic(auto, using(crate::proofs::Loops::store_part, crate::proofs::Laws::store_past))]
+// Stores the bytes of `from` in `to`, from `at` on, as far as there is room. No way out of the loop before its end, so that it goes
+// by many bytes at a turn; by copy_from_slice an archive for C would want memmove from outside.
 pub fn copy(to: &mut [u8], at: usize, from: &[u8])
     ensures { to.new ≡ store to.old at «from».now }
 {
-    if at < to.len() {
-        let n = from.len().min(to.len() - at);
-        to[at..at + n].copy_from_slice(&from[..n]);
+    let n = from.len().min(to.len().saturating_sub(at));
+    for i in 0..n {
+        to[at + i] = from[i];
     }
 }
 
