@@ -114,20 +114,27 @@ fn skip_part(stdin: Stdin, buf: &mut [u8], mark: u8) -> io::Result<Part>
     Ok(front(0, true, false))
 }
 
-// From where to where the bytes stand that a part has left, or where it was cut its rest. What no part of this buffer has left counts
-// as nothing.
-fn left(stdin: Stdin, buf: &mut [u8], mark: u8, before: Option<Part>) -> io::Result<(usize, usize)>
-    ensures { IfOk result (λ rest. (rest.0 ≤ rest.1) × (rest.1 ≤ length buf.new)) }
-{
-    let rest = match before {
-        Some(part) if part.cut => skip_part(stdin, buf, mark)?,
-        Some(part) => part,
-        None => return Ok((0, 0)),
-    };
-    if rest.next <= rest.end && rest.end <= buf.len() {
-        return Ok((rest.next, rest.end));
+// The part; where it was cut, what its rest has left.
+fn past_cut(
+    stdin: Stdin,
+    buf: &mut [u8],
+    mark: u8,
+    part: Option<Part>,
+) -> io::Result<Option<Part>> {
+    match part {
+        Some(part) if part.cut => Ok(Some(skip_part(stdin, buf, mark)?)),
+        _ => Ok(part),
     }
-    Ok((0, 0))
+}
+
+// From where to where the bytes stand that a part has left. What no part of this buffer has left counts as nothing.
+fn left(buf: &[u8], part: Option<Part>) -> (usize, usize)
+    ensures { (result.0 ≤ result.1) × (result.1 ≤ length buf.now) }
+{
+    match part {
+        Some(part) if part.next <= part.end && part.end <= buf.len() => (part.next, part.end),
+        _ => (0, 0),
+    }
 }
 
 // The part after a part; the first where there is none before it. After a read that failed the buffer holds anything, and nothing is left
@@ -136,7 +143,9 @@ pub fn next_part(stdin: Stdin, buf: &mut [u8], mark: u8, before: Option<Part>) -
     ensures read { IfOk result (Within (length buf.new)) }
     ensures kept { length buf.new ≡ length buf.old }
 {
-    let (from, end) = left(stdin, buf, mark, before)?;
+    // A read that fails while the rest of a part that was cut is skipped counts as nothing: what comes behind it is read.
+    let before = past_cut(stdin, buf, mark, before).unwrap_or(None);
+    let (from, end) = left(buf, before);
     if let Some(at) = mark_at(buf, mark, from, end) {
         return Ok(marked(from, at, end));
     }
@@ -149,6 +158,8 @@ pub fn next_line(stdin: Stdin, buf: &mut [u8], before: Option<Part>) -> io::Resu
     ensures read { IfOk result (λ line. IfSome line (Within (length buf.new))) }
     ensures kept { length buf.new ≡ length buf.old }
 {
+    // Here it ends the reading.
+    let before = past_cut(stdin, buf, b'\n', before)?;
     let line = next_part(stdin, buf, b'\n', before)?;
     if line.last && line.to == 0 {
         return Ok(None);
