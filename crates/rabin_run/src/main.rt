@@ -20,7 +20,8 @@ fn main(rt: HostRuntime) -> io::Result<()> {
 
 fn line(stdout: Stdout, bytes: &[u8]) -> io::Result<()> {
     let print = Rabin::new().update(bytes);
-    print!(stdout; "{} ", print.result())?;
+    let sign = if print.result() < 0 { "-" } else { "" };
+    print!(stdout; "{sign}{} ", ground::magnitude(print.result()))?;
     for b in print.bytes() {
         print!(stdout; "{b:02x}")?;
     }

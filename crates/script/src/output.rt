@@ -6,7 +6,7 @@ ghost use Rattle.script.specs.Hex.{hex_of};
 ghost use Rattle.script.specs.Hex.{glyph as Hex·glyph};
 ghost use Rattle.script.specs.Put.{Put};
 
-use ground::copy;
+use ground::{copy, magnitude};
 use std::io::{Error, Stdout};
 
 // Standard output. After a write that failed nothing more is written.
@@ -80,9 +80,9 @@ pub fn put_signed(stdout: &mut Output, out: &mut [u8], at: usize, n: i64) -> usi
 {
     if n < 0 {
         let next = put(stdout, out, at, b"-");
-        return put_decimal(stdout, out, next, n.unsigned_abs());
+        return put_decimal(stdout, out, next, magnitude(n));
     }
-    put_decimal(stdout, out, at, n.unsigned_abs())
+    put_decimal(stdout, out, at, magnitude(n))
 }
 
 fn glyph(d: u8) -> u8

@@ -5,4 +5,4 @@ use Rattle.script.proofs.Laws.{put_then, put_is}
 use Rattle.script.proofs.output.put_signed.Goals as goal
 
 pub returns-then-n-lt0 : goal.returns-then-n-lt0
-returns-then-n-lt0 c = put_is (signed_below _ _ c.ranges.n c.unsigned_abs.ensures.value c.if-n-lt0.true) (put_then c.put-next.ensures c.put_decimal.ensures)
+returns-then-n-lt0 c = put_is (signed_below _ _ c.ranges.n c.magnitude.ensures c.if-n-lt0.true) (put_then c.put-next.ensures c.put_decimal.ensures)
