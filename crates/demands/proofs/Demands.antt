@@ -1,4 +1,4 @@
--- THE THREE DEMANDS on a set, over what its calls promise (crate `set`: specs/Calls and specs/Answer ℕ). The words are those of specs/Building.
+-- THE THREE DEMANDS on a set, over what its calls promise (crate `set`: specs/Calls and specs/Naming). The words are those of specs/Building.
 -- Answers stand here in 01's numbers, as in the promises (crate `answer`: specs/Answers): `.number` is 0 where a call is accepted, and then `.first`,
 -- `.second`, `.third` are the set's counts; else it is the refusal's, `.first` the declaration's place, `.second` the byte position.
 -- Assumes nothing.

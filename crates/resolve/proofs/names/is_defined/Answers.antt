@@ -1,4 +1,4 @@
--- `row::names::is_defined` meets its contract. The invariant: the name is defined if one of the rows left defines it.
+-- `resolve::names::is_defined` meets its contract. The invariant: the name is defined if one of the rows left defines it.
 -- Assumes nothing.
 use mathlib.Core.Path.{sym, ◌∙◌}
 use Rattle.resolve.proofs.ResolveLaws.{defined_start, defined_hit, defined_more, defined_end}
